@@ -1,0 +1,4 @@
+pub mod Answer
+pub mod Marker
+pub mod Scope
+pub mod Access

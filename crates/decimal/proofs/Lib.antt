@@ -1,0 +1,4 @@
+mod Reading
+mod Splitting
+mod Printing
+pub mod Laws

@@ -1,0 +1,3 @@
+pub mod Read
+pub mod Split
+pub mod Print

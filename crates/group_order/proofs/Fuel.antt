@@ -1,0 +1,186 @@
+-- The fuel of a release never runs out: every discard takes an entry from held, every round a set's from held or a number's from pending.
+use Prim.Native.Nat.{ℕ, zero, suc, _+_, _*_, _≤_, _<_}
+use mathlib.Core.Path.{_≡_, refl, ap, _∙_}
+use mathlib.Core.Bool.{true, false, _&&_, not}
+use mathlib.Core.List.{List, [], _∷_}
+use mathlib.Core.Option.{Option, some, none}
+use native.Mathlib.Omega.{arith}
+use lib.IntN.{ℤ}
+use lib.ListN.{length, length-append}
+use Rattle.group_order.specs.Lists.{keep, any, count, find}
+use Rattle.group_order.specs.Guid.{Guid}
+use Rattle.group_order.specs.Entry.{What, sample, setEnd, Entry, inSet, marks}
+use Rattle.group_order.specs.Offer.{shares, replaced, marked, keepEnd}
+use Rattle.group_order.specs.Sets.{lowestSet, lowestEnded, whole, without, isStale, lowestStale}
+use Rattle.group_order.specs.Commit.{Turn, isHead, headOf, next}
+use Rattle.group_order.specs.Release.{Work, discard, handOut, finishIf, finish, discardOr, discardStale, withHeld, withOut, markOr, settle, commitOne, commitAll, commit, round, orStop, rounds, enough}
+use Rattle.group_order.proofs.Lists.{and-left, length-keep, length-split, count-any, any-imp}
+use Rattle.group_order.proofs.Minima.{next-head, ended-there, stale-there}
+use Rattle.group_order.proofs.Turns.{stale-keeps, finish-keeps, round-keeps}
+
+module _ {X : Type 0} where
+  -- ---- discards
+
+  -- what leaves shortens the list
+  pub without-shorter : (g : Guid) (z : ℤ) (l : List (Entry X)) → any (λ h. inSet g z h) l ≡ true → length (without g z l) < length l
+  unfolding without count
+  without-shorter g z l h = omega (arith, count-any (λ h. inSet g z h) l h, length-split (λ h. inSet g z h) l)
+
+  stale-shorter : (e : Entry X) (w : Work X) (z : ℤ) → lowestStale e (w .held) ≡ some z → length (discard (e .group) z w .held) < length (w .held)
+  unfolding discard
+  stale-shorter e w z h = without-shorter (e .group) z (w .held) (any-imp (λ x. inSet (e .group) z x && isStale e (w .held) x) (λ x. inSet (e .group) z x) (λ x p. and-left (inSet (e .group) z x) _ p) (w .held) (stale-there e (w .held) z h))
+
+  none-stale : (e : Entry X) (l : List (Entry X)) → length l ≤ 0 → lowestStale e l ≡ none
+  unfolding lowestStale lowestSet keep
+  none-stale e [] h = refl
+  none-stale e (x ∷ l) h = absurd (omega arith)
+
+  -- with fuel for every held entry no stale set is left
+  pub stale-fuel : (e : Entry X) (w : Work X) (k : ℕ) → length (w .held) ≤ k → lowestStale e (discardStale k e w .held) ≡ none
+  unfolding discardStale
+  stale-fuel e w zero h = none-stale e (w .held) h
+  stale-fuel e w (suc k) h = (elim (lowestStale e (w .held)) as (λ o. lowestStale e (w .held) ≡ o → lowestStale e (discardOr (λ v. discardStale k e v) (e .group) w o .held) ≡ none) [ none ↦ λ d. d | some z ↦ λ d. stale-fuel e (discard (e .group) z w) k (omega (arith, stale-shorter e w z d)) ]) refl
+
+  -- and more changes nothing
+  stale-same : (e : Entry X) (m n : ℕ) (w : Work X) → length (w .held) ≤ m → length (w .held) ≤ n → discardStale m e w ≡ discardStale n e w
+  unfolding discardStale
+  stale-same e zero zero w h k = refl
+  stale-same e zero (suc n) w h k = rw (none-stale e (w .held) h)
+  stale-same e (suc m) zero w h k = rw (none-stale e (w .held) k)
+  stale-same e (suc m) (suc n) w h k = (elim (lowestStale e (w .held)) as (λ o. lowestStale e (w .held) ≡ o → discardOr (λ v. discardStale m e v) (e .group) w o ≡ discardOr (λ v. discardStale n e v) (e .group) w o) [ none ↦ λ d. refl | some z ↦ λ d. stale-same e m n (discard (e .group) z w) (omega (arith, stale-shorter e w z d)) (omega (arith, stale-shorter e w z d)) ]) refl
+
+  pub stale-more : (e : Entry X) (w : Work X) (k : ℕ) → length (w .held) ≤ k → discardStale k e w ≡ discardStale (length (w .held)) e w
+  stale-more e w k h = stale-same e k (length (w .held)) w h (omega arith)
+
+  -- ---- commits
+
+  pub keepEnd-length : (m : Option ℕ) (e : Entry X) (l : List (Entry X)) → length (keepEnd m e l) ≤ suc (length l)
+  unfolding keepEnd
+  keepEnd-length m e l = omega (arith, length-append (keep (λ h. not (replaced e h)) l) (marked m e ∷ []), length-keep (λ h. not (replaced e h)) l)
+
+  pub settle-length : (e : Entry X) (w : Work X) (x : What X) (s : Option ℤ) → length (settle e w x s .held) ≤ suc (length (w .held))
+  unfolding withHeld withOut
+  settle-length e w (sample x) none = omega arith
+  settle-length e w (sample x) (some z) = omega (arith, length-append (w .held) (e ∷ []))
+  settle-length e w (setEnd f o) none = omega arith
+  settle-length e w (setEnd f o) (some z) = keepEnd-length (markOr (e .time) (find (λ m. shares e m && marks m) (w .held))) e (w .held)
+
+  pub settle-pending : (e : Entry X) (w : Work X) (x : What X) (s : Option ℤ) → settle e w x s .pending ≡ w .pending
+  unfolding withHeld withOut
+  settle-pending e w (sample x) none = refl
+  settle-pending e w (sample x) (some z) = refl
+  settle-pending e w (setEnd f o) none = refl
+  settle-pending e w (setEnd f o) (some z) = refl
+
+  pub settle-committed : (e : Entry X) (w : Work X) (x : What X) (s : Option ℤ) → settle e w x s .committed ≡ w .committed
+  unfolding withHeld withOut
+  settle-committed e w (sample x) none = refl
+  settle-committed e w (sample x) (some z) = refl
+  settle-committed e w (setEnd f o) none = refl
+  settle-committed e w (setEnd f o) (some z) = refl
+
+  pub stale-pending : (e : Entry X) (k : ℕ) (w : Work X) → discardStale k e w .pending ≡ w .pending
+  unfolding discard
+  stale-pending e k w = stale-keeps (λ v. v .pending ≡ w .pending) e (λ z v h. h) k w refl
+
+  pub stale-committed : (e : Entry X) (k : ℕ) (w : Work X) → discardStale k e w .committed ≡ w .committed
+  unfolding discard
+  stale-committed e k w = stale-keeps (λ v. v .committed ≡ w .committed) e (λ z v h. h) k w refl
+
+  pub stale-length : (e : Entry X) (k : ℕ) (w : Work X) → length (discardStale k e w .held) ≤ length (w .held)
+  unfolding discard without
+  stale-length e k w = stale-keeps (λ v. length (v .held) ≤ length (w .held)) e (λ z v h. omega (arith, length-keep (λ x. not (inSet (e .group) z x)) (v .held))) k w (omega arith)
+
+  -- the entries of one number: pending and committed stay, held grows by one each at most
+  pub commitAll-pending : (l : List (Entry X)) (w : Work X) → commitAll l w .pending ≡ w .pending
+  unfolding commitAll commitOne
+  commitAll-pending [] w = refl
+  commitAll-pending (e ∷ l) w =
+      let v : Work X = discardStale (length (w .held)) e w in
+      commitAll-pending l (commitOne e w) ∙ settle-pending e v (e .what) (e .set) ∙ stale-pending e (length (w .held)) w
+
+  pub commitAll-committed : (l : List (Entry X)) (w : Work X) → commitAll l w .committed ≡ w .committed
+  unfolding commitAll commitOne
+  commitAll-committed [] w = refl
+  commitAll-committed (e ∷ l) w =
+      let v : Work X = discardStale (length (w .held)) e w in
+      commitAll-committed l (commitOne e w) ∙ settle-committed e v (e .what) (e .set) ∙ stale-committed e (length (w .held)) w
+
+  pub commitAll-length : (l : List (Entry X)) (w : Work X) → length (commitAll l w .held) ≤ length l + length (w .held)
+  unfolding commitAll commitOne
+  commitAll-length [] w = omega arith
+  commitAll-length (e ∷ l) w =
+      let v : Work X = discardStale (length (w .held)) e w in
+      omega (arith, commitAll-length l (commitOne e w), settle-length e v (e .what) (e .set), stale-length e (length (w .held)) w)
+
+  pub commit-pending : (t : Turn) (n k : ℕ) (w : Work X) → commit t n k w .pending ≡ keep (λ e. not (isHead t n e)) (w .pending)
+  unfolding commit
+  commit-pending t n k w = commitAll-pending (headOf t n (w .pending)) _
+
+  pub commit-committed : (t : Turn) (n k : ℕ) (w : Work X) → commit t n k w .committed ≡ n
+  unfolding commit
+  commit-committed t n k w = commitAll-committed (headOf t n (w .pending)) _
+
+  pub commit-length : (t : Turn) (n k : ℕ) (w : Work X) → length (commit t n k w .held) ≤ length (headOf t n (w .pending)) + length (w .held)
+  unfolding commit
+  commit-length t n k w = commitAll-length (headOf t n (w .pending)) _
+
+  -- ---- finished sets
+
+  pub finish-pending : (t : Turn) (z : ℤ) (w : Work X) → finish t z w .pending ≡ w .pending
+  unfolding discard handOut
+  finish-pending t z w = finish-keeps (λ v. v .pending ≡ w .pending) t z (λ v h. h) (λ v h. h) w refl
+
+  pub finish-committed : (t : Turn) (z : ℤ) (w : Work X) → finish t z w .committed ≡ w .committed
+  unfolding discard handOut
+  finish-committed t z w = finish-keeps (λ v. v .committed ≡ w .committed) t z (λ v h. h) (λ v h. h) w refl
+
+  pub finish-held : (t : Turn) (z : ℤ) (w : Work X) → finish t z w .held ≡ without (t .guid) z (w .held)
+  unfolding finish discard handOut
+  finish-held t z w = (elim (whole (t .guid) z (t .counted) (w .held)) as (λ b. finishIf b (t .guid) z w .held ≡ without (t .guid) z (w .held)) [ true ↦ refl | false ↦ refl ])
+
+  -- ---- rounds
+
+  -- what falls at every round
+  size : Work X → ℕ
+  size w = 2 * length (w .pending) + length (w .held)
+
+  finish-falls : (t : Turn) (z : ℤ) (w : Work X) → lowestEnded (t .guid) (w .held) ≡ some z → size (finish t z w) < size w
+  unfolding size
+  finish-falls t z w h = omega (arith, ap length (finish-pending t z w), ap length (finish-held t z w), without-shorter (t .guid) z (w .held) (any-imp (λ x. inSet (t .guid) z x && marks x) (λ x. inSet (t .guid) z x) (λ x p. and-left (inSet (t .guid) z x) _ p) (w .held) (ended-there (t .guid) (w .held) z h)))
+
+  commit-falls : (t : Turn) (n k : ℕ) (w : Work X) → next t (w .pending) ≡ some n → size (commit t n k w) < size w
+  unfolding size headOf count
+  commit-falls t n k w h = omega (arith, ap length (commit-pending t n k w), commit-length t n k w, length-split (λ e. isHead t n e) (w .pending), count-any (λ e. isHead t n e) (w .pending) (next-head t (w .pending) n h))
+
+  falls : (t : Turn) (w v : Work X) → round t w ≡ some v → size v < size w
+  falls t w v h = round-keeps (λ u. size u < size w) t w v h (λ z e. finish-falls t z w e) (λ n k d e. commit-falls t n k w e)
+
+  stops-with : (k : ℕ) (t : Turn) (w : Work X) → size w < k → round t (rounds k t w) ≡ none
+  unfolding rounds
+  stops-with zero t w h = absurd (omega arith)
+  stops-with (suc k) t w h = (elim (round t w) as (λ o. round t w ≡ o → round t (orStop (λ v. rounds k t v) w o) ≡ none) [ none ↦ λ e. e | some v ↦ λ e. stops-with k t v (omega (arith, falls t w v e)) ]) refl
+
+  same-rounds : (m n : ℕ) (t : Turn) (w : Work X) → size w < m → size w < n → rounds m t w ≡ rounds n t w
+  unfolding rounds
+  same-rounds zero n t w h k = absurd (omega arith)
+  same-rounds (suc m) zero t w h k = absurd (omega arith)
+  same-rounds (suc m) (suc n) t w h k = (elim (round t w) as (λ o. round t w ≡ o → orStop (λ v. rounds m t v) w o ≡ orStop (λ v. rounds n t v) w o) [ none ↦ λ e. refl | some v ↦ λ e. same-rounds m n t v (omega (arith, falls t w v e)) (omega (arith, falls t w v e)) ]) refl
+
+  -- enough rounds go on until one stops, and more change nothing
+  pub stops : (t : Turn) (w : Work X) → round t (rounds (enough w) t w) ≡ none
+  unfolding size enough
+  stops t w = stops-with (enough w) t w (omega arith)
+
+  pub more : (t : Turn) (w : Work X) (k : ℕ) → enough w ≤ k → rounds k t w ≡ rounds (enough w) t w
+  unfolding size enough
+  more t w k h = same-rounds k (enough w) t w (omega arith) (omega arith)
+
+  -- pending and held together never grow
+  pub finish-stored : (t : Turn) (z : ℤ) (w : Work X) → length (finish t z w .pending) + length (finish t z w .held) ≤ length (w .pending) + length (w .held)
+  unfolding without
+  finish-stored t z w = omega (arith, ap length (finish-pending t z w), ap length (finish-held t z w), length-keep (λ h. not (inSet (t .guid) z h)) (w .held))
+
+  pub commit-stored : (t : Turn) (n k : ℕ) (w : Work X) → length (commit t n k w .pending) + length (commit t n k w .held) ≤ length (w .pending) + length (w .held)
+  unfolding headOf
+  commit-stored t n k w = omega (arith, ap length (commit-pending t n k w), commit-length t n k w, length-split (λ e. isHead t n e) (w .pending))

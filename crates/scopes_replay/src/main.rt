@@ -1,0 +1,439 @@
+// Replays the calls on marker and scopes that stand on standard input, one a line, and prints each answer on a line.
+//
+//   M number            encode a marker       16 hex digits
+//   D bytes             decode a marker       number, refused 11
+//   N                   new scope             ok
+//   B number            begin                 ok, refused 6
+//   E                   end                   number, refused 6
+//   A                   is active             0 or 1
+//   C                   current marker        number, or -
+//   X count generation  access scope at these ok
+//   P                   access begin          ok
+//   Q                   access end            ok, refused 6
+//   W                   access is active      0 or 1
+//   S                   current snapshot      generation
+//
+// Numbers are decimal, bytes are lower-case hex, `-` for none. Any other line is `bad`.
+// Before the first line there is a new scope, and an access scope at 0 0.
+use coherent_set::AccessEnded;
+use coherent_set::CoherentBegun;
+use coherent_set::CoherentEnded;
+use coherent_set::CoherentScope;
+use coherent_set::CoherentSetMarker;
+use coherent_set::CurrentMarker;
+use coherent_set::Decoded;
+use coherent_set::GroupAccessScope;
+use decimal::Put;
+use decimal::Signed;
+use decimal::Unsigned;
+use libc::STDIN_FILENO;
+use libc::STDOUT_FILENO;
+
+// Room for every answer.
+type Out = [u8; 32];
+
+// Room for every good line, but for a `D` of more than 31 bytes.
+type Line = [u8; 64];
+
+struct Scopes {
+    scope: CoherentScope,
+    access: GroupAccessScope,
+}
+
+// The scopes after a call, and how many bytes of the answer there are.
+struct Answer {
+    scopes: Scopes,
+    length: usize,
+}
+
+// The scopes between two bytes of the input, and how many bytes of a line are there.
+struct Place {
+    scopes: Scopes,
+    length: usize,
+}
+
+// A read of the input: where it leads, and whether there may be more.
+struct Turn {
+    place: Place,
+    more: bool,
+}
+
+// Puts text at `at`, and answers where the next byte goes. Every answer has room.
+fn put(out: &mut Out, at: usize, text: &[u8]) -> usize {
+    let placed = decimal::put_bytes(out, at, text);
+    match placed {
+        Put::At(next) => next,
+        Put::NoRoom => at,
+    }
+}
+
+fn put_unsigned(out: &mut Out, at: usize, n: u64) -> usize {
+    let placed = decimal::put_unsigned(out, at, n);
+    match placed {
+        Put::At(next) => next,
+        Put::NoRoom => at,
+    }
+}
+
+// The bits of -x are x's size, that of the least number too.
+fn put_signed(out: &mut Out, x: i64) -> usize {
+    let bits = coherent_set::bits_of(x);
+    if x < 0 {
+        let at = put(out, 0, b"-");
+        return put_unsigned(out, at, std::num::wrapping_sub_u64(0, bits));
+    }
+    put_unsigned(out, 0, bits)
+}
+
+fn say(scopes: Scopes, text: &[u8], out: &mut Out) -> Answer {
+    let length = put(out, 0, text);
+    Answer { scopes, length }
+}
+
+fn say_ok(scopes: Scopes, out: &mut Out) -> Answer {
+    say(scopes, b"ok\n", out)
+}
+
+fn say_bad(scopes: Scopes, out: &mut Out) -> Answer {
+    say(scopes, b"bad\n", out)
+}
+
+fn say_flag(scopes: Scopes, flag: bool, out: &mut Out) -> Answer {
+    if flag {
+        return say(scopes, b"1\n", out);
+    }
+    say(scopes, b"0\n", out)
+}
+
+fn say_unsigned(scopes: Scopes, n: u64, out: &mut Out) -> Answer {
+    let at = put_unsigned(out, 0, n);
+    let length = put(out, at, b"\n");
+    Answer { scopes, length }
+}
+
+fn say_signed(scopes: Scopes, x: i64, out: &mut Out) -> Answer {
+    let at = put_signed(out, x);
+    let length = put(out, at, b"\n");
+    Answer { scopes, length }
+}
+
+// The digit of n's low half.
+fn hex_digit(n: u8) -> u8 {
+    let digits = b"0123456789abcdef";
+    digits[(n % 16) as usize]
+}
+
+// The digit's value, 16 where it is none.
+fn hex_value(digit: u8) -> u8 {
+    if b'0' <= digit && digit <= b'9' {
+        return digit - b'0';
+    }
+    if b'a' <= digit && digit <= b'f' {
+        return digit - b'a' + 10;
+    }
+    16
+}
+
+fn put_byte(out: &mut Out, at: usize, b: u8) -> usize {
+    let pair = [hex_digit(b / 16), hex_digit(b)];
+    put(out, at, &pair)
+}
+
+fn put_hex(out: &mut Out, bytes: &[u8]) -> usize {
+    let mut at: usize = 0;
+    let mut i: usize = 0;
+    while i < bytes.len() {
+        at = put_byte(out, at, bytes[i]);
+        i += 1;
+    }
+    at
+}
+
+// Fills bytes with what text spells, two hex digits each, and answers whether it spells some.
+fn read_hex(text: &[u8], bytes: &mut [u8; 32]) -> bool {
+    if text.len() == 0 || text.len() % 2 != 0 {
+        return false;
+    }
+    if 64 < text.len() {
+        return false; // longer than a field can be
+    }
+    let mut i: usize = 0;
+    while i < text.len() / 2 {
+        let high = hex_value(text[2 * i]);
+        let low = hex_value(text[2 * i + 1]);
+        if 15 < high {
+            return false;
+        }
+        if 15 < low {
+            return false;
+        }
+        bytes[i] = high * 16 + low;
+        i += 1;
+    }
+    true
+}
+
+fn encode(scopes: Scopes, field: &[u8], out: &mut Out) -> Answer {
+    let number = decimal::read_signed(field);
+    let Signed::Value(x) = number else {
+        return say_bad(scopes, out);
+    };
+    let bytes = CoherentSetMarker::new(x).to_wire_bytes();
+    let at = put_hex(out, &bytes);
+    let length = put(out, at, b"\n");
+    Answer { scopes, length }
+}
+
+fn decode(scopes: Scopes, field: &[u8], out: &mut Out) -> Answer {
+    let mut bytes = [0u8; 32];
+    if field.len() == 1 && field[0] == b'-' {
+        return decode_bytes(scopes, &bytes, 0, out);
+    }
+    let is_hex = read_hex(field, &mut bytes);
+    if !is_hex {
+        return say_bad(scopes, out);
+    }
+    decode_bytes(scopes, &bytes, field.len() / 2, out)
+}
+
+// Decodes the first `count` bytes.
+fn decode_bytes(scopes: Scopes, bytes: &[u8; 32], count: usize, out: &mut Out) -> Answer {
+    let all: &[u8] = bytes;
+    if all.len() < count {
+        return say_bad(scopes, out);
+    }
+    let decoded = CoherentSetMarker::from_wire_bytes(&all[0..count]);
+    match decoded {
+        Decoded::Marker(marker) => say_signed(scopes, marker.set_first_sn, out),
+        Decoded::NotEightBytes => say(scopes, b"refused 11\n", out),
+    }
+}
+
+fn begin(scopes: Scopes, field: &[u8], out: &mut Out) -> Answer {
+    let number = decimal::read_signed(field);
+    let Signed::Value(x) = number else {
+        return say_bad(scopes, out);
+    };
+    let access = scopes.access;
+    let begun = scopes.scope.begin(x);
+    match begun {
+        CoherentBegun::Begun(scope) => say_ok(Scopes { scope, access }, out),
+        CoherentBegun::PreconditionNotMet(scope) => say(
+            Scopes { scope, access },
+            b"refused 6\n",
+            out,
+        ),
+    }
+}
+
+fn end(scopes: Scopes, out: &mut Out) -> Answer {
+    let access = scopes.access;
+    let ended = scopes.scope.end();
+    match ended {
+        CoherentEnded::Ended(marker, scope) => say_signed(
+            Scopes { scope, access },
+            marker.set_first_sn,
+            out,
+        ),
+        CoherentEnded::PreconditionNotMet(scope) => say(
+            Scopes { scope, access },
+            b"refused 6\n",
+            out,
+        ),
+    }
+}
+
+fn current_marker(scopes: Scopes, out: &mut Out) -> Answer {
+    let current = scopes.scope.current_marker();
+    match current {
+        CurrentMarker::Marker(marker) => say_signed(scopes, marker.set_first_sn, out),
+        CurrentMarker::Nothing => say(scopes, b"-\n", out),
+    }
+}
+
+fn access_at(scopes: Scopes, count: u64, generation: u64, out: &mut Out) -> Answer {
+    if 4294967295 < count {
+        return say_bad(scopes, out);
+    }
+    let scope = scopes.scope;
+    let access = GroupAccessScope {
+        open_count: count as u32,
+        snapshot_generation: generation,
+    };
+    say_ok(Scopes { scope, access }, out)
+}
+
+fn new_access(scopes: Scopes, fields: &[u8], out: &mut Out) -> Answer {
+    let end = decimal::field_end(fields, 0);
+    if fields.len() <= end {
+        return say_bad(scopes, out);
+    }
+    let first = decimal::read_unsigned(&fields[0..end]);
+    let second = decimal::read_unsigned(&fields[end + 1..]);
+    let Unsigned::Value(count) = first else {
+        return say_bad(scopes, out);
+    };
+    let Unsigned::Value(generation) = second else {
+        return say_bad(scopes, out);
+    };
+    access_at(scopes, count, generation, out)
+}
+
+fn access_end(scopes: Scopes, out: &mut Out) -> Answer {
+    let scope = scopes.scope;
+    let before = scopes.access;
+    let access = before.ended();
+    let answer = before.end_answer();
+    match answer {
+        AccessEnded::Ended => say_ok(Scopes { scope, access }, out),
+        AccessEnded::PreconditionNotMet => say(Scopes { scope, access }, b"refused 6\n", out),
+    }
+}
+
+// A call with no fields.
+fn run_bare(scopes: Scopes, call: u8, out: &mut Out) -> Answer {
+    let scope = scopes.scope;
+    let access = scopes.access;
+    match call {
+        b'N' => {
+            let scope = CoherentScope::new();
+            say_ok(Scopes { scope, access }, out)
+        }
+        b'E' => end(scopes, out),
+        b'A' => say_flag(scopes, scope.is_active(), out),
+        b'C' => current_marker(scopes, out),
+        b'P' => {
+            let access = access.begun();
+            say_ok(Scopes { scope, access }, out)
+        }
+        b'Q' => access_end(scopes, out),
+        b'W' => say_flag(scopes, access.is_active(), out),
+        b'S' => say_unsigned(scopes, access.current_snapshot(), out),
+        _ => say_bad(scopes, out),
+    }
+}
+
+// A call with fields, which are read before anything is changed.
+fn run_fields(scopes: Scopes, call: u8, fields: &[u8], out: &mut Out) -> Answer {
+    match call {
+        b'M' => encode(scopes, fields, out),
+        b'D' => decode(scopes, fields, out),
+        b'B' => begin(scopes, fields, out),
+        b'X' => new_access(scopes, fields, out),
+        _ => say_bad(scopes, out),
+    }
+}
+
+// A line, without its newline.
+fn run_line(scopes: Scopes, line: &[u8], out: &mut Out) -> Answer {
+    if line.len() == 0 {
+        return say_bad(scopes, out);
+    }
+    if line.len() == 1 {
+        return run_bare(scopes, line[0], out);
+    }
+    if line[1] != b' ' {
+        return say_bad(scopes, out);
+    }
+    run_fields(scopes, line[0], &line[2..], out)
+}
+
+// Prints the answer to the first `length` bytes of line, `bad` where line has not so many.
+fn answer_line(scopes: Scopes, line: &Line, length: usize) -> Scopes {
+    let line: &[u8] = line;
+    let mut out = [0u8; 32];
+    if line.len() < length {
+        let said = say_bad(scopes, &mut out);
+        print(&out, said.length);
+        return said.scopes;
+    }
+    let said = run_line(scopes, &line[0..length], &mut out);
+    print(&out, said.length);
+    said.scopes
+}
+
+fn print(out: &Out, length: usize) {
+    let text: &[u8] = out;
+    if length <= text.len() {
+        io::write_all(STDOUT_FILENO, &text[0..length]);
+    }
+}
+
+// Adds a byte to a line, and answers its length. A line that has no room for the byte is bad, and stays at 65, unless
+// it is a `D` with many digits: that answers the same with two digits less, so two are dropped.
+fn lengthen(line: &mut Line, length: usize, b: u8) -> usize {
+    if length < 64 {
+        line[length] = b;
+        return length + 1;
+    }
+    if length == 64 && hex_value(line[63]) < 16 && hex_value(b) < 16 {
+        return 63;
+    }
+    65
+}
+
+fn run_byte(place: Place, b: u8, line: &mut Line) -> Place {
+    let before = place.scopes;
+    let length = place.length;
+    if b == b'\n' {
+        let scopes = answer_line(before, line, length);
+        return Place { scopes, length: 0 };
+    }
+    let length = lengthen(line, length, b);
+    Place {
+        scopes: before,
+        length,
+    }
+}
+
+fn run_chunk(place: Place, chunk: &[u8], line: &mut Line) -> Place {
+    let mut place = place;
+    let mut i: usize = 0;
+    while i < chunk.len() {
+        place = run_byte(place, chunk[i], line);
+        i += 1;
+    }
+    place
+}
+
+// Reads once, and runs what came.
+fn run_some(place: Place, line: &mut Line) -> Turn {
+    let mut chunk = io::buffer();
+    let got = libc::read(STDIN_FILENO, &mut chunk);
+    if got <= 0 {
+        return Turn { place, more: false };
+    }
+    let count = io::count(got, &chunk);
+    let next = run_chunk(place, &chunk[..count], line);
+    Turn {
+        place: next,
+        more: true,
+    }
+}
+
+// Reads to the end of the input. So that the loop is seen to end, it counts down from more reads than any run makes.
+fn run_input(line: &mut Line) -> Place {
+    let scopes = Scopes {
+        scope: CoherentScope::new(),
+        access: GroupAccessScope::new(),
+    };
+    let mut place = Place { scopes, length: 0 };
+    let mut turns = u64::MAX;
+    while 0 < turns {
+        turns -= 1;
+        let turn = run_some(place, line);
+        place = turn.place;
+        if !turn.more {
+            return place;
+        }
+    }
+    place
+}
+
+fn main() {
+    let mut line = [0u8; 64];
+    let place = run_input(&mut line);
+    if 0 < place.length {
+        answer_line(place.scopes, &line, place.length); // the last line has no newline
+    }
+}

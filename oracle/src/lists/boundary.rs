@@ -1,0 +1,171 @@
+//! Lists around the limits of groups, pairs, rows and entries.
+
+use super::text::{self, Info, Pair};
+use crate::rng::Rng;
+
+/// Calls of all kinds that touch up to eleven groups.
+pub(super) fn groups(rng: &mut Rng) -> Vec<String> {
+    let mut lines = vec![text::fresh(10)];
+    for group in 0..rng.between(7, 11) {
+        lines.extend(touches(rng, group as u8, 1));
+    }
+    around(rng, &mut lines, |rng| (rng.below(12) as u8, 1));
+    lines
+}
+
+/// Calls of all kinds that touch up to 36 pairs of group and writer.
+pub(super) fn pairs(rng: &mut Rng) -> Vec<String> {
+    let mut lines = vec![text::fresh(10)];
+    let groups = rng.between(1, 8);
+    for pair in 0..rng.between(30, 36) {
+        lines.extend(touches(rng, (pair % groups) as u8, (pair / groups) as u8));
+    }
+    around(rng, &mut lines, |rng| {
+        (rng.below(9) as u8, rng.below(40) as u8)
+    });
+    lines
+}
+
+/// A call that makes a writer known, or one before it that is turned down.
+fn touches(rng: &mut Rng, group: u8, writer: u8) -> Vec<String> {
+    let mut lines = Vec::new();
+    if rng.once_in(4) {
+        lines.push(touch(rng, Pair(group, writer, 8)));
+    }
+    lines.push(touch(rng, Pair(group, writer, reader_of(writer))));
+    lines
+}
+
+fn reader_of(writer: u8) -> u8 {
+    writer % 8
+}
+
+fn touch(rng: &mut Rng, pair: Pair) -> String {
+    let info = Info(rng.between(-1, 3), *rng.pick(&[None, Some(1)]), 7);
+    match rng.below(4) {
+        0 => text::end(pair, info, Some(1), Some(2), 0),
+        1 => text::heartbeat(pair.0, pair.1, [1, 0, rng.between(-1, 3)], [None, None]),
+        2 => text::gap(pair, rng.between(-1, 3)),
+        _ => text::sample(pair, info, 9, 0),
+    }
+}
+
+fn around(rng: &mut Rng, lines: &mut Vec<String>, writer: fn(&mut Rng) -> (u8, u8)) {
+    for time in [0, 9, 10] {
+        for _ in 0..rng.between(1, 8) {
+            let (group, writer) = writer(rng);
+            let reader = *rng.pick(&[0, 1, 7, 8]);
+            lines.push(touch(rng, Pair(group, writer, reader)));
+        }
+        lines.push(text::release(time));
+    }
+}
+
+/// Rows around their limits, and a release after each of the last.
+pub(super) fn rows(rng: &mut Rng) -> Vec<String> {
+    let mut lines = vec![text::fresh(10)];
+    for digest in 0..rng.between(6, 9) {
+        let group = if rng.once_in(2) { 1 } else { digest as u8 };
+        let other = u32::from(rng.once_in(30));
+        lines.push(text::digest(group, 7 + other));
+    }
+    let rows = *rng.pick(&[2, 254, 255, 256, 257]);
+    let counted = |rng: &mut Rng| {
+        let reader = if rng.once_in(600) { 8 } else { rng.below(8) };
+        text::counted(Pair(rng.below(3) as u8, rng.below(4) as u8, reader as u8))
+    };
+    lines.extend((0..rows).map(|_| counted(rng)));
+    for number in 1..=rng.between(2, 6) {
+        let pair = Pair(rng.below(3) as u8, rng.below(4) as u8, rng.below(8) as u8);
+        lines.push(text::sample(pair, Info(number, None, 7), number as u64, 0));
+    }
+    for time in [0, 9, 10, 20] {
+        lines.push(text::release(time));
+        if rng.once_in(2) {
+            lines.push(counted(rng));
+        }
+    }
+    lines
+}
+
+/// Entries up to 256: held members, kept ends and pending ones.
+pub(super) fn entries(rng: &mut Rng) -> Vec<String> {
+    const TIMEOUT: u64 = 10;
+    let mut lines = vec![text::fresh(TIMEOUT), text::counted(Pair(1, 1, 0))];
+    // Some lists come near the limits of groups and pairs too.
+    let crowded = rng.once_in(2);
+    if crowded {
+        for pair in 0..rng.between(20, 32) {
+            lines.push(text::gap(
+                Pair(3 + (pair % 6) as u8, (pair / 6) as u8, 0),
+                0,
+            ));
+        }
+    }
+    // Group 1 commits members of set 1; with an end of writer 2 missing, an
+    // ended set stays and keeps ends that join.
+    let members = rng.between(0, 60);
+    let ended = rng.once_in(2);
+    if ended {
+        lines.push(text::counted(Pair(1, 2, 0)));
+    }
+    for number in 1..=members {
+        lines.push(text::sample(Pair(1, 1, 0), Info(number, Some(1), 7), 1, 0));
+    }
+    if ended {
+        lines.push(text::end(
+            Pair(1, 1, 0),
+            Info(members + 1, Some(1), 7),
+            Some(1),
+            Some(2),
+            0,
+        ));
+    }
+    lines.push(text::release(0));
+    let joins = rng.between(0, 20);
+    for join in 0..joins {
+        let pair = Pair(1, 3 + (join / 8) as u8, (join % 8) as u8);
+        lines.push(text::end(pair, Info(1, Some(1), 7), None, None, 0));
+    }
+    // Group 2 waits for its number 1.
+    let pending = 256 - members - joins - rng.between(0, 4);
+    for place in 0..pending {
+        let number = 2 + place / rng.between(1, 2);
+        lines.push(near_full(rng, number, place as u64));
+    }
+    for step in 0..rng.between(15, 40) {
+        let number = rng.between(0, pending + 3);
+        lines.push(match rng.below(if crowded { 18 } else { 12 }) {
+            12.. => {
+                let (group, writer) = (rng.between(1, 10) as u8, rng.below(9) as u8);
+                let reader = *rng.pick(&[0, 1, 8]);
+                touch(rng, Pair(group, writer, reader))
+            }
+            0..=4 => near_full(rng, number, 1000 + step as u64),
+            5..=7 => {
+                let pair = Pair(1, rng.between(1, 6) as u8, rng.below(8) as u8);
+                let info = Info(rng.between(0, 2), Some(rng.between(1, 2)), 7);
+                text::end(pair, info, None, None, 0)
+            }
+            8 | 9 => {
+                let info = Info(rng.between(0, members + 3), *rng.pick(&[None, Some(1)]), 7);
+                text::sample(Pair(1, 1, 0), info, 2000 + step as u64, 0)
+            }
+            10 => text::gap(Pair(2, 1, 0), number),
+            _ => text::release(*rng.pick(&[0, TIMEOUT - 1, TIMEOUT])),
+        });
+    }
+    lines.push(text::release(TIMEOUT));
+    lines.push(near_full(rng, 300, 3000));
+    lines
+}
+
+/// A sample or an end of group 2.
+fn near_full(rng: &mut Rng, number: i64, item: u64) -> String {
+    let pair = Pair(2, 1, rng.below(3) as u8);
+    let info = Info(number, *rng.pick(&[None, None, Some(2)]), 7);
+    match rng.below(5) {
+        0 => text::end(pair, info, Some(1), Some(2), 0),
+        _ => text::sample(pair, info, item, rng.below(2)),
+    }
+}
