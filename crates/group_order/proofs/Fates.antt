@@ -22,7 +22,7 @@ use Rattle.group_order.proofs.Lists.{and-left, and-last, and-never, not
 use Rattle.group_order.proofs.Stays.{released-stays, heartbeat-same, gap-same, release-cases, story-stays}
 use Rattle.group_order.proofs.Conserve.{stock, OfSamples, keepEnd-count, not-sample, released-stock, OnlySamples, only-samples, Exact, exact}
 
-fate-joined : (a b : Bool) → fate a b ≡ isJoined → b ≡ true
+pub fate-joined : (a b : Bool) → fate a b ≡ isJoined → b ≡ true
 fate-joined true b e = cc
 fate-joined false true e = refl
 fate-joined false false e = cc

@@ -56,12 +56,12 @@ writer-group h v gs ws a k = any-all (λ (x : Writer). sameGuid h (x .group) && 
 
 -- ---- refusals and fates
 
-refusal-first : (n : ℕ) (b : Bool) (l : List (ℕ × Bool)) → refusal ((n, b) ∷ l) ≡ none → b ≡ false
+pub refusal-first : (n : ℕ) (b : Bool) (l : List (ℕ × Bool)) → refusal ((n, b) ∷ l) ≡ none → b ≡ false
 unfolding refusal
 refusal-first n true l e = none-not-some (some n) n e refl
 refusal-first n false l e = refl
 
-refusal-rest : (n : ℕ) (b : Bool) (l : List (ℕ × Bool)) → refusal ((n, b) ∷ l) ≡ none → refusal l ≡ none
+pub refusal-rest : (n : ℕ) (b : Bool) (l : List (ℕ × Bool)) → refusal ((n, b) ∷ l) ≡ none → refusal l ≡ none
 unfolding refusal
 refusal-rest n true l e = none-not-some (some n) n e refl
 refusal-rest n false l e = e

@@ -1,0 +1,185 @@
+-- What an offer's refusal and fate say of its answer and of the state it leaves, and the marks that a call tells.
+use Prim.Native.Nat.{ℕ, _+_, _-_, _^_, _<_, _≤_}
+use mathlib.Core.Path.{_≡_, refl, sym, ap, _∙_}
+use mathlib.Core.Bool.{Bool, true, false, _&&_, _||_, not}
+use mathlib.Core.List.{List, [], _∷_}
+use mathlib.Core.Option.{some, none}
+use native.Mathlib.Omega.{arith}
+use native.Mathlib.Nat.{mod-eq-of-lt}
+use lib.IntN.{ℤ}
+use lib.Signed.{mag}
+use lib.Dec.{ltb, leb}
+use lib.ListN.{length, getD, set}
+use mir.Syntax.{w64}
+use mir.Val.{toZ, ofZ}
+use mir.ValLaws.{toZ-ofZ}
+use borrow.Author.Tests.{leb-false, lt-ltb, ne-eqb}
+use Rattle.coherent_set.specs.Answer.{Answer, refused, answered}
+use Rattle.group_order.specs.Lists.{any, change, indexOf, isSome}
+use Rattle.group_order.specs.Guid.{Guid}
+use Rattle.group_order.specs.Entry.{Entry, isSampleW, ofGroup}
+use Rattle.group_order.specs.State.{State, Group, Writer, isGroup, isWriter, newWriter, committedOf, stored}
+use Rattle.group_order.specs.Marks.{number, hearWriter, announcedTo, tell}
+use Rattle.group_order.specs.Offer.{Offer, Fate, isStored, isJoined, isLate, refusal, ninth, pair33, withMarks, entryOf, shares, replaced, fateOf, adds, offerRefusal, place, heardOffer, offered, offer}
+use Rattle.history.specs.Store.{groupsOf, writersOf, stateOf, digestOf}
+use Rattle.history.specs.Calls.{digestAs, digestWord}
+use Rattle.history.specs.declared.order.Digest.{Digest}
+use Rattle.history.specs.declared.order.Digest.the-variants as D
+use Rattle.history.specs.Records.{Told}
+use Rattle.group_order.proofs.Lists.{not-both, and-right, and-never, any-empty}
+use Rattle.group_order.proofs.Fates.{fate-joined}
+use Rattle.group_order.proofs.Reached.{refusal-first, refusal-rest}
+use Rattle.history.proofs.Places.{change-at}
+
+-- without a set none is shared
+pub none-shares : {X : Type 0} (e : Entry X) → e .set ≡ none → (l : List (Entry X)) → any (λ h. shares e h) l ≡ false
+unfolding shares
+none-shares e c = any-empty (λ h. shares e h) (λ h. rw (c, and-never (ofGroup (e .group) h) false refl))
+
+-- ---- refusals
+
+module _ {X : Type 0} (s : State X) (o : Offer X) where
+  -- no refusal but for want of room
+  pub record Admitted : Type 0 where
+    pub reader : ltb 7 (o .reader) ≡ false
+    pub group : ninth (o .group) s ≡ false
+    pub pair : pair33 (o .group) (o .writer) s ≡ false
+
+  -- an offer with this fate, for which there is room
+  pub record Accepted (f : Fate) : Type 0 where
+    pub admitted : Admitted
+    pub fate : fateOf s o ≡ f
+    pub room : adds f s o && leb 256 (stored s) ≡ false
+
+module _ {X : Type 0} (s : State X) (o : Offer X) where
+  -- the answer, by the tests in their order
+  pub refused-reader : ltb 7 (o .reader) ≡ true → offer s o .0 ≡ refused 1
+  unfolding offer offerRefusal refusal
+  refused-reader a = rw a
+
+  pub refused-ninth : ltb 7 (o .reader) ≡ false → ninth (o .group) s ≡ true → offer s o .0 ≡ refused 2
+  unfolding offer offerRefusal refusal
+  refused-ninth a b = rw (a, b)
+
+  pub refused-pair : ltb 7 (o .reader) ≡ false → ninth (o .group) s ≡ false → pair33 (o .group) (o .writer) s ≡ true → offer s o .0 ≡ refused 3
+  unfolding offer offerRefusal refusal
+  refused-pair a b c = rw (a, b, c)
+
+  pub refused-full : (f : Fate) → Admitted s o → fateOf s o ≡ f → adds f s o && leb 256 (stored s) ≡ true → offer s o .0 ≡ refused 4
+  unfolding offer offerRefusal refusal
+  refused-full f a b c = rw (a .reader, a .group, a .pair, b, c)
+
+  pub accepted : (f : Fate) → Accepted s o f → offer s o ≡ (answered f, place f (entryOf o) (heardOffer o s))
+  unfolding offer offerRefusal refusal
+  accepted f a = rw (a .admitted .reader, a .admitted .group, a .admitted .pair, a .fate, a .room, a .fate)
+
+  -- and back
+  pub answered-so : (f : Fate) → answered f ≡ offer s o .0 → Accepted s o f
+  unfolding offer offerRefusal
+  answered-so f = (elim (offerRefusal s o) as (λ x. offerRefusal s o ≡ x → answered f ≡ offered x s o .0 → Accepted s o f) [
+    | some n ↦ λ e q. let z : _≡_ {A = Bool} true false = cc in not-both true refl z
+    | none ↦ λ e q. let d : fateOf s o ≡ f = cc in
+        let a : refusal ((2, ninth (o .group) s) ∷ (3, pair33 (o .group) (o .writer) s) ∷ (4, adds (fateOf s o) s o && leb 256 (stored s)) ∷ []) ≡ none = refusal-rest 1 (ltb 7 (o .reader)) _ e in
+        let b : refusal ((3, pair33 (o .group) (o .writer) s) ∷ (4, adds (fateOf s o) s o && leb 256 (stored s)) ∷ []) ≡ none = refusal-rest 2 (ninth (o .group) s) _ a in
+        let c : refusal ((4, adds (fateOf s o) s o && leb 256 (stored s)) ∷ []) ≡ none = refusal-rest 3 (pair33 (o .group) (o .writer) s) _ b in
+        record {
+          admitted = record { reader = refusal-first 1 (ltb 7 (o .reader)) _ e; group = refusal-first 2 (ninth (o .group) s) _ a; pair = refusal-first 3 (pair33 (o .group) (o .writer) s) _ b };
+          fate = d;
+          room = ap (λ x. adds x s o && leb 256 (stored s)) (sym d) ∙ refusal-first 4 (adds (fateOf s o) s o && leb 256 (stored s)) _ c;
+        }
+  ]) refl
+
+  pub refused-so : (n : ℕ) → refused n ≡ offer s o .0 → (refused n, s) ≡ offer s o
+  unfolding offer
+  refused-so n = (elim (offerRefusal s o) as (λ x. refused n ≡ offered x s o .0 → (refused n, s) ≡ offered x s o) [
+    | some k ↦ λ q. let e : n ≡ k = cc in ap {B = Answer Fate × State X} (λ i. (refused i, s)) e
+    | none ↦ λ q. let z : _≡_ {A = Bool} true false = cc in not-both true refl z
+  ])
+
+  -- ---- fates
+
+  pub fate-above : ltb (committedOf (o .group) (s .groups)) (number (o .number)) ≡ true → fateOf s o ≡ isStored
+  unfolding fateOf
+  fate-above a = rw a
+
+  pub fate-joins : ltb (committedOf (o .group) (s .groups)) (number (o .number)) ≡ false → not (isSampleW (o .what)) && any (λ h. shares (entryOf o) h) (s .held) ≡ true → fateOf s o ≡ isJoined
+  unfolding fateOf
+  fate-joins a b = rw (a, b)
+
+  pub fate-late : ltb (committedOf (o .group) (s .groups)) (number (o .number)) ≡ false → not (isSampleW (o .what)) && any (λ h. shares (entryOf o) h) (s .held) ≡ false → fateOf s o ≡ isLate
+  unfolding fateOf
+  fate-late a b = rw (a, b)
+
+  -- ---- an end that joins has a set
+
+  pub joined-set : Accepted s o isJoined → isSome (o .set) ≡ true
+  unfolding fateOf isSome entryOf
+  joined-set a =
+      let opened : Bool = any (λ h. shares (entryOf o) h) (s .held) in
+      let t = fate-joined (ltb (committedOf (o .group) (s .groups)) (number (o .number))) (not (isSampleW (o .what)) && opened) (a .fate) in
+      (elim (o .set) as (λ z. o .set ≡ z → isSome z ≡ true) [
+        | none ↦ λ e. not-both opened (and-right (not (isSampleW (o .what))) opened t) (none-shares (entryOf o) e (s .held))
+        | some z ↦ λ e. refl
+      ]) refl
+
+  -- ---- room: the marks leave what is stored
+
+  pub room-stored : Accepted s o isStored → stored (heardOffer o s) < 256
+  unfolding adds stored heardOffer withMarks
+  room-stored a = leb-false 256 (length (s .pending) + length (s .held)) (a .room)
+
+  pub room-joined : Accepted s o isJoined → any (λ h. replaced (entryOf o) h) (heardOffer o s .held) || ltb (stored (heardOffer o s)) 256 ≡ true
+  unfolding adds stored heardOffer withMarks
+  room-joined a = (elim (any (λ h. replaced (entryOf o) h) (s .held)) as (λ b. not b && leb 256 (length (s .pending) + length (s .held)) ≡ false → b || ltb (length (s .pending) + length (s .held)) 256 ≡ true) [
+    | true ↦ λ e. refl
+    | false ↦ λ e. lt-ltb (length (s .pending) + length (s .held)) 256 (leb-false 256 (length (s .pending) + length (s .held)) e)
+  ]) (a .room)
+
+-- ---- marks
+
+-- hearing a group leaves the writers
+pub pair-kept : {X : Type 0} (g w : Guid) (gs : List Group) (s t : State X) → t ≡ withMarks gs (s .writers) s → pair33 g w s ≡ false → pair33 g w t ≡ false
+unfolding pair33 withMarks
+pair-kept g w gs s t e h = rw e h
+
+-- the group is heard, and its announced number raised
+pub then-announced : (g : Guid) (c : ℕ) (gs : List Group) (ws : List Writer) (s : State ℕ) (l m : List ℕ) → stateOf l ≡ withMarks gs ws s
+    → stateOf m ≡ withMarks (change (λ x. isGroup g x) (λ x. announcedTo c x) (groupsOf l)) (stateOf l .writers) (stateOf l)
+    → stateOf m ≡ withMarks (change (λ x. isGroup g x) (λ x. announcedTo c x) gs) ws s
+unfolding stateOf withMarks
+then-announced g c gs ws s l m e h =
+    h ∙ ap {B = State ℕ} (λ (t : State ℕ). withMarks (change (λ x. isGroup g x) (λ x. announcedTo c x) (t .groups)) (t .writers) t) e
+
+-- a writer is heard after the groups' marks
+pub then-heard : (g w : Guid) (gs : List Group) (ws : List Writer) (s : State ℕ) (l m : List ℕ) → stateOf l ≡ withMarks gs ws s
+    → stateOf m ≡ withMarks (stateOf l .groups) (hearWriter g w (writersOf l)) (stateOf l) → stateOf m ≡ withMarks gs (hearWriter g w ws) s
+unfolding stateOf withMarks
+then-heard g w gs ws s l m e h = h ∙ ap {B = State ℕ} (λ (t : State ℕ). withMarks (t .groups) (hearWriter g w (t .writers)) t) e
+
+-- and then told
+pub then-told : (g w : Guid) (f : Writer → Writer) (gs : List Group) (ws : List Writer) (s : State ℕ) (l m : List ℕ) (i : ℕ)
+    → stateOf l ≡ withMarks gs (hearWriter g w ws) s → i ≡ indexOf (λ x. isWriter g w x) (writersOf l) → i < length (writersOf l) → Told i f l m
+    → stateOf m ≡ withMarks gs (tell g w f ws) s
+unfolding stateOf withMarks tell
+then-told g w f gs ws s l m i e d b t =
+    let z : Writer = newWriter [] [] in
+    let h : indexOf (λ x. isWriter g w x) (writersOf l) < length (writersOf l) = omega arith in
+    let c : set (writersOf l) i (f (getD (writersOf l) i z)) ≡ change (λ x. isWriter g w x) f (writersOf l)
+    = ap (λ j. set (writersOf l) j (f (getD (writersOf l) j z))) d ∙ sym (change-at (λ x. isWriter g w x) f (writersOf l) z h) in
+    t .state ∙ ap (λ x. withMarks (stateOf l .groups) x (stateOf l)) c
+    ∙ ap {B = State ℕ} (λ (t : State ℕ). withMarks (t .groups) (change (λ x. isWriter g w x) f (t .writers)) t) e
+
+-- ---- numbers and digests as they are passed
+
+-- a signed field's number goes as its bits
+pub counted : (z : ℤ) (n : ℕ) → mag z < 2 ^ 63 → n ≡ number (toZ w64 (ofZ w64 z)) → n ≡ number z
+counted z n f e = e ∙ ap number (toZ-ofZ w64 z (record { sfits = f }))
+
+-- a digest's word means that digest
+pub digest-back : (d : Digest) (w : ℕ) → w ≡ digestWord d → w ≤ 2 ^ 32 → digestOf w ≡ digestAs d
+unfolding digestWord digestAs
+digest-back D.Absent w e h = rw e
+digest-back (D.Present n) w e h =
+    let k : w - 1 ≡ n = omega arith in
+    let b : n < 2 ^ 32 = omega arith in
+    rw (ne-eqb w 0 (λ d. omega arith), k, mod-eq-of-lt b)

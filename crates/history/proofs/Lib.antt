@@ -1,0 +1,16 @@
+pub mod Table
+pub mod Keys
+pub mod Tags
+pub mod Queries
+pub mod RowLaws
+pub mod Views
+pub mod Bridge
+pub mod Asked
+pub mod Known
+pub mod Places
+pub mod StoreLaws
+pub mod Accepting
+pub mod Appending
+pub mod GroupWords
+pub mod WriterWords
+pub mod Fresh

@@ -1,0 +1,20 @@
+-- `group_order::groups::key_of` meets its contract: the first two words of a group's row are its GUID.
+use mathlib.Core.List.{[]}
+use mathlib.Core.Path.{sym, _∙_}
+use borrow.Author.Needs.{needs}
+use Rattle.history.proofs.StoreLaws.{group-key}
+use Rattle.group_order.specs.State.{newGroup}
+use Rattle.history.proofs.groups.key_of.Statement.{statement}
+use Rattle.history.proofs.groups.key_of.Tie as tie
+
+row-of-requires : tie.Need-row-of-requires
+row-of-requires c κs = search needs
+
+key-at-requires : tie.Need-key-at-requires
+key-at-requires c κs = search needs
+
+returns : tie.Need-returns
+returns c = rw (c .before .row-of .ensures .0) at (c .key-at .ensures) ∙ sym (group-key (c .before .before .args .store .now) (c .before .before .args .i) (newGroup []) (c .before .before .pre))
+
+pub key-of-spec : {M : Type 1} → statement M
+key-of-spec = tie.close (tie.spec row-of-requires key-at-requires returns)

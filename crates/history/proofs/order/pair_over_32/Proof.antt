@@ -1,0 +1,26 @@
+-- `group_order::history::pair_over_32` meets its contract: the place found is the count where the pair is not known.
+use Rattle.group_order.specs.State.{knowsWriter}
+use Rattle.group_order.specs.Offer.{pair33}
+use Rattle.history.specs.Store.{stateOf}
+use Rattle.history.proofs.Known.{full-none, full-some}
+use borrow.Author.Needs.{needs}
+use Rattle.history.proofs.order.pair_over_32.Statement.{statement}
+use Rattle.history.proofs.order.pair_over_32.Tie as tie
+
+writer-count-requires : tie.Need-writer-count-requires
+writer-count-requires c κs = search needs
+
+find-writer-requires : tie.Need-find-writer-requires
+find-writer-requires c κs = search needs
+
+returns : tie.Need-returns
+unfolding pair33 knowsWriter stateOf
+returns c = full-none _ _ 32 (c .before .find-writer .ensures) (c .before .before .writer-count .ensures) (c .if1 .taken)
+
+returns-2 : tie.Need-returns-2
+unfolding pair33 knowsWriter stateOf
+returns-2 c = full-some _ _ 32 (c .before .find-writer .ensures) (c .before .before .writer-count .ensures) (c .if1 .left)
+
+pub pair-over-32-spec : {M : Type 1} → statement M
+pair-over-32-spec =
+    tie.close (tie.spec writer-count-requires find-writer-requires returns returns-2)

@@ -1,0 +1,34 @@
+-- `group_order::rows::kind_fits` meets its contract: a tag says whether the entry is an end.
+use native.Mathlib.Omega.{arith}
+use borrow.Author.Tests.{ne-eqb}
+use borrow.Author.Needs.{needs}
+use Rattle.group_order.specs.Entry.{isSample}
+use Rattle.history.specs.Store.{rowOf}
+use Rattle.history.proofs.RowLaws.{beq-true, beq-false}
+use Rattle.history.proofs.Table.{word-at}
+use Rattle.history.proofs.rows.kind_fits.Statement.{statement}
+use Rattle.history.proofs.rows.kind_fits.Tie as tie
+
+add-word : tie.Need-add-word
+add-word c = search needs
+
+word-requires : tie.Need-word-requires
+word-requires c κs = search needs
+
+returns : tie.Need-returns
+unfolding rowOf isSample
+returns c =
+    let a = c .before .before .before .args in
+    rw (c .before .before .if1 .taken, word-at 12 (a .p) (a .store .now) 5 (omega arith), ← c .before .word .ensures, c .if2 .taken) (beq-false (a .sample))
+
+returns-2 : tie.Need-returns-2
+unfolding rowOf isSample
+returns-2 c =
+    let a = c .before .before .before .args in
+    rw (c .before .before .if1 .taken, word-at 12 (a .p) (a .store .now) 5 (omega arith), ← c .before .word .ensures, ne-eqb _ _ (c .if2 .left)) (beq-true (a .sample))
+
+returns-3 : tie.Need-returns-3
+returns-3 c = search needs
+
+pub kind-fits-spec : {M : Type 1} → statement M
+kind-fits-spec = tie.close (tie.spec add-word word-requires returns returns-2 returns-3)

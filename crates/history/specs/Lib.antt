@@ -1,0 +1,5 @@
+pub mod Table
+pub mod Store
+pub mod Records
+pub mod Calls
+pub mod View

@@ -1,0 +1,11 @@
+// The subscriber's group history in a lent store: group_order.rs of the source, by the rules of crate `group_order`.
+mod coding;
+pub mod entry;
+mod groups;
+mod key;
+pub mod order;
+mod query;
+mod rows;
+mod view;
+mod words;
+mod writers;
