@@ -36,10 +36,19 @@ unfolding pairIn ofGroup inSet ofPair isMember isEndOf
 pair-asked a g z w r true e = simp (and-true, and-assoc, beq-yes)
 pair-asked a g z w r false e = simp (and-true, and-assoc, beq-no)
 
+-- a reader's entries of a number
+pub copy-asked : (a g r n : Bool) → a && g && true && true && true && r && n ≡ a && ((g && n) && r)
+copy-asked true true true true = refl
+copy-asked true true true false = refl
+copy-asked true true false true = refl
+copy-asked true true false false = refl
+copy-asked true false r n = refl
+copy-asked false g r n = refl
+
 -- ---- lists
 
 module _ {A : Type 0} where
-  any-same : (p q : A → Bool) → ((a : A) → p a ≡ q a) → (l : List A) → any p l ≡ any q l
+  pub any-same : (p q : A → Bool) → ((a : A) → p a ≡ q a) → (l : List A) → any p l ≡ any q l
   unfolding any
   any-same p q h [] = refl
   any-same p q h (a ∷ l) = rw (h a, any-same p q h l)
@@ -83,12 +92,20 @@ stored-le l = omega (arith, staged-le (rowsOf l), length-rows-le (min (getD l 2 
 pub counted-le : (q : Query) (n : ℕ) (l : List ℕ) (r : ℕ) → r ≡ count (λ x. fits q x) (rowsIn n l) → r ≤ n
 counted-le q n l r e = omega (arith, count-le (λ x. fits q x) (rowsIn n l), length-rows-le n l)
 
+-- over any rows
+module _ (k : ℕ) (p : Entry ℕ → Bool) (q : Query) (h : Asks q k p) (rs : List Row) where
+  pub any-asked : any (λ x. fits q x) rs ≡ any p (staged k rs)
+  any-asked = any-same (λ x. fits q x) _ h rs ∙ any-staged k p rs
+
+  pub count-asked : count (λ x. fits q x) rs ≡ count p (staged k rs)
+  count-asked = count-same (λ x. fits q x) _ h rs ∙ count-staged k p rs
+
 -- over the rows in use
 module _ (k : ℕ) (p : Entry ℕ → Bool) (l : List ℕ) {n : ℕ} (e : n ≡ min (getD l 2 0) 256) (q : Query) (h : Asks q k p) where
   pub asked-any : {r : Bool} → r ≡ any (λ x. fits q x) (rowsIn n l) → r ≡ any p (staged k (rowsOf l))
   unfolding rowsOf
-  asked-any f = f ∙ any-same (λ x. fits q x) _ h (rowsIn n l) ∙ any-staged k p (rowsIn n l) ∙ ap (λ m. any p (staged k (rowsIn m l))) e
+  asked-any f = f ∙ any-asked k p q h (rowsIn n l) ∙ ap (λ m. any p (staged k (rowsIn m l))) e
 
   pub asked-count : {r : ℕ} → r ≡ count (λ x. fits q x) (rowsIn n l) → r ≡ count p (staged k (rowsOf l))
   unfolding rowsOf
-  asked-count f = f ∙ count-same (λ x. fits q x) _ h (rowsIn n l) ∙ count-staged k p (rowsIn n l) ∙ ap (λ m. count p (staged k (rowsIn m l))) e
+  asked-count f = f ∙ count-asked k p q h (rowsIn n l) ∙ ap (λ m. count p (staged k (rowsIn m l))) e

@@ -1,18 +1,17 @@
 -- A GUID as two words: bytes compare as the numbers that they make.
 use Prim.Native.Nat.{ℕ, zero, suc, _+_, _*_, _/_, _%_, _^_, _≤_, _<_, compare, Ordering, Ordering·lt, Ordering·eq, Ordering·gt}
 use mathlib.Core.Path.{_≡_, refl, sym, ap, _∙_}
-use mathlib.Core.Bool.{_&&_, cond}
+use mathlib.Core.Bool.{_&&_}
 use mathlib.Core.List.{List, [], _++_, append-nil}
 use native.Mathlib.Nat.{mod-lt, mod-one, mod-eq-of-lt, pow-succ', suc-mul, mul-le-mul-right}
 use native.Mathlib.Omega.{arith}
-use lib.Dec.{lit<, isEq, eqb, ltb}
-use borrow.Author.Tests.{lt-ltb, le-ltb}
+use lib.Dec.{lit<, eqb}
 use lib.Arith.{mod-mul}
 use lib.ListN.{length, take, drop, length-drop, take-append-drop}
 use lib.Seq.{take-all, length-take-le}
 use Rattle.coherent_set.specs.Marker.{bytesOf, numberOf}
 use Rattle.coherent_set.proofs.Bytes.{Bytes, pow-pos, bytesOf-numberOf, take-bytes, drop-bytes}
-use Rattle.group_order.specs.Guid.{Guid, orElse, compareGuid, sameGuid, isLess, before}
+use Rattle.group_order.specs.Guid.{Guid, orElse, compareGuid, sameGuid}
 use Rattle.history.specs.Store.{guidOf}
 use Rattle.group_order.proofs.Compare.{lt-compare, gt-compare, eq-compare}
 use Rattle.group_order.proofs.Guids.{orElse-eq}
@@ -27,15 +26,6 @@ orElse-none : (o : Ordering) → orElse o Ordering·eq ≡ o
 orElse-none Ordering·lt = refl
 orElse-none Ordering·eq = refl
 orElse-none Ordering·gt = refl
-
-orElse-less : (o p : Ordering) → isLess (orElse o p) ≡ cond (isEq o) (isLess p) (isLess o)
-orElse-less Ordering·lt p = refl
-orElse-less Ordering·eq p = refl
-orElse-less Ordering·gt p = refl
-
-less-ltb : (m n : ℕ) → isLess (compare m n) ≡ ltb m n
-less-ltb m n =
-    sides m n (λ l. rw (lt-compare m n l) (sym (lt-ltb m n l))) (λ e. rw (eq-compare m n e) (sym (le-ltb m n (omega arith)))) (λ l. rw (gt-compare m n l) (sym (le-ltb m n (omega arith))))
 
 -- numbers compare by their high digits first
 digits-compare : (p a r b s : ℕ) → r < p → s < p → compare (a * p + r) (b * p + s) ≡ orElse (compare a b) (compare r s)
@@ -82,7 +72,3 @@ module _ (a b c d : ℕ) (fa : a < 2 ^ 64) (fb : b < 2 ^ 64) (fc : c < 2 ^ 64) (
   pub key-same : sameGuid (guidOf a b) (guidOf c d) ≡ eqb a c && eqb b d
   unfolding sameGuid
   key-same = rw key-compare (orElse-eq (compare a c) (compare b d))
-
-  pub key-before : before (guidOf a b) (guidOf c d) ≡ cond (eqb a c) (ltb b d) (ltb a c)
-  unfolding before
-  key-before = rw (key-compare, orElse-less (compare a c) (compare b d), less-ltb a c, less-ltb b d)

@@ -14,3 +14,6 @@ pub mod Appending
 pub mod GroupWords
 pub mod WriterWords
 pub mod Fresh
+pub mod Gone
+pub mod PairLaws
+pub mod ReadyLaws

@@ -27,6 +27,14 @@ module _ {A : Type 0} (p : A → Bool) (l m : List A) (x : A) (e : l ≡ x ∷ m
   unfolding any
   any-miss h = rw (e, h)
 
+  pub all-hit : p x ≡ false → all p l ≡ false
+  unfolding all
+  all-hit h = rw (e, h)
+
+  pub all-miss : p x ≡ true → all p l ≡ all p m
+  unfolding all
+  all-miss h = rw (e, h)
+
   pub index-hit : p x ≡ true → indexOf p l ≡ 0
   unfolding indexOf
   index-hit h = rw (e, h)

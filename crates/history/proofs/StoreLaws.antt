@@ -11,7 +11,7 @@ use Rattle.history.proofs.Table.{word-at, paste-keeps, table-same, tabl
 use Rattle.history.proofs.Places.{front-part, front-get}
 use Rattle.group_order.specs.State.{State, Group, Writer}
 use Rattle.group_order.specs.Offer.{withMarks}
-use Rattle.history.specs.Store.{guidOf, groupOf, writerOf, rowOf, groupsOf, writersOf, rowsIn, rowsOf, countsOf, staged, stateOf}
+use Rattle.history.specs.Store.{guidOf, digestOf, groupOf, writerOf, rowOf, groupsOf, writersOf, rowsIn, rowsOf, countsOf, staged, stateOf}
 use Rattle.history.specs.Table.{table}
 
 -- ---- how many there are, and the one at a place
@@ -64,6 +64,15 @@ pub writer-key : (l : List ℕ) (i : ℕ) (z : Writer) → i < length (writersOf
     → getD (writersOf l) i z .writer ≡ guidOf (getD l (40 + i * 25 + 2) 0) (getD l (40 + i * 25 + 2 + 1) 0)
 unfolding writerOf
 writer-key l i z h = ap (λ x. x .writer) (writer-at l i z h) ∙ rw (writer-word l i 2 (omega arith), writer-word l i 3 (omega arith), add-assoc (40 + i * 25) 2 1)
+
+-- the digests that it sent last
+pub writer-digest : (l : List ℕ) (i : ℕ) (z : Writer) → i < length (writersOf l) → getD (writersOf l) i z .digest ≡ digestOf (getD l (40 + i * 25 + 23) 0)
+unfolding writerOf
+writer-digest l i z h = ap (λ x. x .digest) (writer-at l i z h) ∙ ap (λ x. digestOf x) (writer-word l i 23 (omega arith))
+
+pub writer-secure : (l : List ℕ) (i : ℕ) (z : Writer) → i < length (writersOf l) → getD (writersOf l) i z .secure ≡ digestOf (getD l (40 + i * 25 + 24) 0)
+unfolding writerOf
+writer-secure l i z h = ap (λ x. x .secure) (writer-at l i z h) ∙ ap (λ x. digestOf x) (writer-word l i 24 (omega arith))
 
 -- ---- the words before the rows say all but the rows
 

@@ -3,3 +3,5 @@ pub mod Store
 pub mod Records
 pub mod Calls
 pub mod View
+pub mod Tied
+pub mod Ready

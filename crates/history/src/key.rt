@@ -1,4 +1,6 @@
 // GUIDs as the store has them: two words, big-endian.
+use group_order::guid::GuidOrder;
+use group_order::guid::compare;
 ghost use mathlib.Core.Path.{_≡_};
 ghost use Prim.Native.Nat.{_≤_};
 ghost use lib.ListN.{take, drop};
@@ -66,12 +68,13 @@ pub fn same(a: Key, b: Key) -> bool
     a.hi == b.hi && a.lo == b.lo
 }
 
-// Whether a comes before b: words compare as their bytes do.
+// Whether a comes before b, by the comparison of GUIDs. Only a new group asks.
 pub fn comes_before(a: Key, b: Key) -> bool
     ensures { λ r. ⌜ r ≡ before (keyAs a) (keyAs b) ⌝ }
 {
-    if a.hi == b.hi {
-        return a.lo < b.lo;
+    match compare(unpack(a), unpack(b)) {
+        GuidOrder::Before => true,
+        GuidOrder::Same => false,
+        GuidOrder::After => false,
     }
-    a.hi < b.hi
 }

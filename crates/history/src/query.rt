@@ -94,6 +94,19 @@ impl Query {
         q
     }
 
+    // A reader's pending entries of a number.
+    pub(crate) fn of_copy(group: Key, number: u64, reader: u8) -> Query
+        ensures { λ r. ⌜ Asks r 0 (λ e. (ofGroup (keyAs group) e && eqb number (e .number)) && eqb reader (e .reader)) ⌝ }
+    {
+        let mut q = Query::base(0, group, Key { hi: 0, lo: 0 });
+        q.by_group = true;
+        q.by_number = true;
+        q.number = number;
+        q.by_reader = true;
+        q.reader = reader as u64;
+        q
+    }
+
     // The held entries of a set.
     pub(crate) fn of_set(group: Key, set: i64) -> Query
         ensures { λ r. ⌜ Asks r 1 (λ e. inSet (keyAs group) set e) ⌝ }
