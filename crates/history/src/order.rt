@@ -299,7 +299,7 @@ fn pair_over_32(store: &[u64; 6984], group: Key, writer: Key) -> bool
     find_writer(store, group, writer) == n && 32 <= n
 }
 
-// Whether 256 entries are stored. Rows that a release took out count only where it did not end.
+// Whether 256 entries are stored; rows that are gone do not count.
 fn is_full(store: &[u64; 6984]) -> bool
     ensures { λ r. ⌜ r ≡ leb 256 (stored (stateOf (now (store .entry)))) ⌝ }
 {
