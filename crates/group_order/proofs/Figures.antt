@@ -102,6 +102,11 @@ unfoldable pub two : State ℕ
 unfolding prints run
 two = run (fresh 1000) (S 1 1 0 (pos 1) (some (pos 1)) 7 9 0 ∷ E 1 1 0 (pos 2) (some (pos 1)) 7 none none 0 ∷ [])
 
+-- a state that holds one member and one kept end: the set is ended, and another pair's end is missing
+unfoldable pub kept : State ℕ
+unfolding prints run
+kept = run (fresh 1000) (S 1 1 0 (pos 1) (some (pos 1)) 7 9 0 ∷ E 1 1 0 (pos 2) (some (pos 1)) 7 none none 0 ∷ R (view (C 1 1 0 ∷ C 1 2 0 ∷ []) []) 0 ∷ [])
+
 -- the P lines of document 01 on the history
 pub record PLines : Type 0 where
   -- the call list of document 01
@@ -146,6 +151,8 @@ pub record Others : Type 0 where
   -- refusal 5 counts samples, no ends
   pub room-for-samples : releaseRefusal two nobody 1 ≡ none
   pub no-room : releaseRefusal two nobody 0 ≡ some 5
+  pub room-for-members : releaseRefusal kept nobody 1 ≡ none
+  pub no-room-held : releaseRefusal kept nobody 0 ≡ some 5
 
 pub p-lines : PLines
 unfolding prints past pastMarks told
@@ -165,7 +172,7 @@ p-lines = record {
 }
 
 pub others : Others
-unfolding prints past pastMarks heard two
+unfolding prints past pastMarks heard two kept
 others = record {
   joined-unmarked = refl;
   ended-spared = refl;
@@ -178,6 +185,8 @@ others = record {
   seen-open = refl;
   room-for-samples = refl;
   no-room = refl;
+  room-for-members = refl;
+  no-room-held = refl;
 }
 
 -- the bound is reached: a sample of number 5 stays pending through two counted releases, the second behind a later sample of number 3
