@@ -119,18 +119,26 @@ live-le n l h =
 
 -- ---- room
 
+-- what is gone is taken out: the pending and the held rows are left
+module _ (n k r : ℕ) (q p : Query) (l a m : List ℕ) (h : n ≤ 512) (x : Asks q 2 (λ e. true)) (y : Asks p 3 (λ e. true)) (d : Removed q n k l a) (e : Removed p k r a m) where
+  pub live-stage : (j : ℕ) → j < 2 → staged j (rowsIn r m) ≡ staged j (rowsIn n l)
+  live-stage j i = removed-other p 3 (λ e. true) y k r a m e j (λ z. omega arith) ∙ removed-other q 2 (λ e. true) x n k l a d j (λ z. omega arith)
+
+  pub live-rows : r ≡ live (rowsIn n l)
+  live-rows =
+      let left : rowsIn r m ≡ keep (notOf 3) (keep (notOf 2) (rowsIn n l))
+      = e .rows ∙ ap (keep (λ x. not (fits p x))) (d .rows) ∙ ap₂ (λ f g. keep (λ x. not (f x)) (keep (λ x. not (g x)) (rowsIn n l))) (asks-test p 3 (λ e. true) y) (asks-test q 2 (λ e. true) x) in
+      omega (arith, length-rows r m (omega (arith, d .fewer, e .fewer)), ap length left, live-left (rowsIn n l) (stages-small n l))
+
 -- what is gone is dropped
 pub dropped : (n k r : ℕ) (q p : Query) (l a m : List ℕ) → n ≤ 256 → live (rowsIn n l) < 256 → Asks q 2 (λ e. true) → Asks p 3 (λ e. true)
     → Removed q n k l a → Removed p k r a m → Roomy n r l m
 dropped n k r q p l a m h b x y d e =
-    let left : rowsIn r m ≡ keep (notOf 3) (keep (notOf 2) (rowsIn n l))
-    = e .rows ∙ ap (keep (λ x. not (fits p x))) (d .rows) ∙ ap₂ (λ f g. keep (λ x. not (f x)) (keep (λ x. not (g x)) (rowsIn n l))) (asks-test p 3 (λ e. true) y) (asks-test q 2 (λ e. true) x) in
-    let same : (j : ℕ) → j < 2 → staged j (rowsIn r m) ≡ staged j (rowsIn n l)
-    = λ j i. removed-other p 3 (λ e. true) y k r a m e j (λ z. omega arith) ∙ removed-other q 2 (λ e. true) x n k l a d j (λ z. omega arith) in
+    let same = live-stage n k r q p l a m (omega arith) x y d e in
     record {
       pending = same 0 (omega arith);
       held = same 1 (omega arith);
-      room = omega (arith, d .fewer, e .fewer, length-rows r m (omega (arith, d .fewer, e .fewer)), ap length left, live-left (rowsIn n l) (stages-small n l));
+      room = omega (arith, live-rows n k r q p l a m (omega arith) x y d e);
       head = e .head ∙ d .head;
       long = e .long;
     }

@@ -285,12 +285,12 @@ module _ (j : ℕ) (n : 2 ≡ j → ⊥) where
 -- ---- the first row that fits
 
 module _ {A : Type 0} (t : A → Bool) where
-  index-front : (l : List A) → keep t (take (indexOf t l) l) ≡ []
+  pub index-front : (l : List A) → keep t (take (indexOf t l) l) ≡ []
   unfolding keep indexOf
   index-front [] = refl
   index-front (a ∷ l) = (elim (t a) as (λ b. t a ≡ b → keep t (take (cond b 0 (suc (indexOf t l))) (a ∷ l)) ≡ []) [ true ↦ λ e. refl | false ↦ λ e. rw e (index-front l) ]) refl
 
-  index-passes : (l : List A) (z : A) → indexOf t l < length l → t (getD l (indexOf t l) z) ≡ true
+  pub index-passes : (l : List A) (z : A) → indexOf t l < length l → t (getD l (indexOf t l) z) ≡ true
   unfolding indexOf
   index-passes [] z h = absurd (omega arith)
   index-passes (a ∷ l) z h = (elim (t a) as (λ b. t a ≡ b → cond b 0 (suc (indexOf t l)) < suc (length l) → t (getD (a ∷ l) (cond b 0 (suc (indexOf t l))) z) ≡ true) [ true ↦ λ e k. e | false ↦ λ e k. index-passes l z (omega arith) ]) refl h

@@ -17,3 +17,11 @@ pub mod Fresh
 pub mod Gone
 pub mod PairLaws
 pub mod ReadyLaws
+pub mod Spots
+pub mod Lowest
+pub mod SetSteps
+pub mod Repeating
+pub mod Settling
+pub mod Releasing
+pub mod Answering
+pub mod Chained

@@ -2,7 +2,7 @@
 use Prim.{Unit, tt}
 use Prim.Native.Nat.{ℕ, _+_, _≤_, _<_}
 use mathlib.Core.Path.{_≡_}
-use mathlib.Core.Bool.{Bool, true, false, _&&_, _||_, not}
+use mathlib.Core.Bool.{Bool, true, false, _&&_, _||_, not, cond}
 use mathlib.Core.List.{List, [], _∷_, _++_}
 use mathlib.Core.Option.{Option, some, none}
 use lib.IntN.{ℤ}
@@ -15,8 +15,13 @@ use Rattle.group_order.specs.Entry as E
 use Rattle.group_order.specs.State.{State, Writer, Counts}
 use Rattle.group_order.specs.Marks.{hearGroup, tell}
 use Rattle.group_order.specs.Offer as O
+use Rattle.group_order.specs.Release.{View, Outcome, release}
+use Rattle.group_order.specs.Run.{saidRelease, written}
 use Rattle.history.specs.Store.{Row, rowsIn, staged, stateOf}
 use Rattle.history.specs.Records.{optionalAs, whatAs}
+use Rattle.history.specs.View.{more, viewOf}
+use Rattle.history.specs.declared.release.Released.{Released}
+use Rattle.history.specs.declared.release.Released.the-variants as R
 use Rattle.history.specs.declared.order.Offer.{Offer}
 use Rattle.history.specs.declared.order.Offered.{Offered}
 use Rattle.history.specs.declared.order.Offered.the-variants.{Stored, Joined, Late, ReaderAboveSeven, NinthGroup, PairOver32, Full}
@@ -89,6 +94,25 @@ countsAs c = record {
   discarded = c .«discarded_samples»;
   late = c .«late_samples»;
 }
+
+unfoldable pub releasedAs : Released → Answer ℕ
+releasedAs (R.Out n) = answered n
+releasedAs R.MalformedView = refused 9
+releasedAs R.ListTooShort = refused 5
+
+-- a release: the number of places written, the state, the lent list
+abbrev pub countOut : Answer (Outcome ℕ) → Answer ℕ
+countOut (refused n) = refused n
+countOut (answered r) = answered (length (r .out))
+
+unfoldable pub releaseTo : State ℕ → View → ℕ → List ℕ → Answer ℕ × State ℕ × List ℕ
+releaseTo s v now l =
+    let r : Answer (Outcome ℕ) × State ℕ = release s v now (length l) in
+    (countOut (r .0), r .1, written (saidRelease (r .0)) l)
+
+-- the same on the rows that a view has noted; with more than it holds: 9
+unfoldable pub releaseNoted : List ℕ → State ℕ → ℕ → List ℕ → Answer ℕ × State ℕ × List ℕ
+releaseNoted v s now l = cond (more v) (refused 9, s, l) (releaseTo s (viewOf v) now l)
 
 -- a refused call leaves every word as it was
 unfoldable pub Kept : {X : Type 0} → Answer X → List ℕ → List ℕ → Type 0

@@ -5,3 +5,4 @@ pub mod Calls
 pub mod View
 pub mod Tied
 pub mod Ready
+pub mod Chain

@@ -1,22 +1,25 @@
 -- How the store and the lent list stand to the definitions' work while a release runs in one group.
 use Prim.Native.Nat.{ℕ, _+_, _≤_}
 use mathlib.Core.Option.{Option, some, none}
-use lib.Dec.{ltb}
+use lib.Dec.{ltb, eqb}
 use mathlib.Core.Path.{_≡_}
-use mathlib.Core.Bool.{Bool, cond}
+use mathlib.Core.Bool.{Bool, _&&_, not, cond}
 use mathlib.Core.List.{List, [], _∷_, _++_, map}
 use lib.ListN.{length, take, drop, getD, set}
-use Rattle.group_order.specs.Lists.{count, keep}
-use Rattle.group_order.specs.Entry.{Entry, isSample}
+use Rattle.group_order.specs.Lists.{count, keep, indexOf, isSome}
+use Rattle.group_order.specs.Entry.{Entry, isSample, ofGroup}
 use lib.IntN.{ℤ}
 use Rattle.group_order.specs.Guid.{Guid}
-use Rattle.group_order.specs.Sets.{lowestStale}
+use Rattle.group_order.specs.Sets.{lesser, isStale, lowestStale}
 use Rattle.group_order.specs.State.{Group, newGroup}
-use Rattle.group_order.specs.Release.{Work, committedAt}
+use Rattle.group_order.specs.Commit.{Turn}
+use Rattle.group_order.specs.Release.{Work, committedAt, turnOf, orStop, round, releaseAll, discardStale, commitAll}
 use Rattle.group_order.specs.Run.{placeOf}
 use Rattle.history.specs.Records.{fits}
 use Rattle.history.specs.declared.query.Query.{Query}
 use Rattle.history.specs.Store.{Row, rowAt, rowsIn, staged, groupsOf, writersOf, countsOf}
+use Rattle.history.specs.View.{viewOf}
+use Rattle.history.specs.Ready.{headFor}
 
 -- the entry at row i of the first n, if there is one
 unfoldable pub foundAt : ℕ → ℕ → List ℕ → Option (Entry ℕ)
@@ -50,39 +53,100 @@ pub record Spot : Type 0 where
   pub list : List ℕ
   pub out : ℕ
 
+abbrev pub spot : List ℕ → ℕ → List ℕ → ℕ → Spot
+spot l n o k = record { words = l; rows = n; list = o; out = k }
+
+-- the entries of a stage there
+abbrev pub at : ℕ → Spot → List (Entry ℕ)
+at k s = staged k (rowsIn (s .rows) (s .words))
+
 -- group i of a table, if it is there
 abbrev pub groupAt : List ℕ → ℕ → Group
 groupAt l i = getD (groupsOf l) i (newGroup [])
 
--- the spot stands for the work; from is the spot at which the group's release began
+-- the spot stands for the work's entries, counts and list; o is the lent list as the release found it
+pub record Carries (o : List ℕ) (s : Spot) (w : Work ℕ) : Type 0 where
+  pub pending : at 0 s ≡ w .pending
+  pub held : at 1 s ≡ w .held
+  pub counts : countsOf (s .words) ≡ w .counts
+  pub written : take (s .out) (s .list) ≡ map (λ e. placeOf e) (w .out)
+  pub rest : drop (s .out) (s .list) ≡ drop (s .out) o
+  pub same : length (s .list) ≡ length o
+
+-- and for its committed number, of group i; from is the spot at which the group's release began
 pub record Tied (i : ℕ) (from s : Spot) (w : Work ℕ) : Type 0 where
-  pub pending : staged 0 (rowsIn (s .rows) (s .words)) ≡ w .pending
-  pub held : staged 1 (rowsIn (s .rows) (s .words)) ≡ w .held
+  pub carries : Carries (from .list) s w
   pub groups : groupsOf (s .words) ≡ set (groupsOf (from .words)) i (committedAt (w .committed) (groupAt (from .words) i))
   pub writers : writersOf (s .words) ≡ writersOf (from .words)
   pub timeout : getD (s .words) 3 0 ≡ getD (from .words) 3 0
-  pub counts : countsOf (s .words) ≡ w .counts
-  pub written : take (s .out) (s .list) ≡ map (λ e. placeOf e) (w .out)
-  pub rest : drop (s .out) (s .list) ≡ drop (s .out) (from .list)
-  pub long : length (s .words) ≡ 6984
-  pub same : length (s .list) ≡ length (from .list)
 
-abbrev pub spot : List ℕ → ℕ → List ℕ → ℕ → Spot
-spot l n o k = record { words = l; rows = n; list = o; out = k }
+-- rows that a release may come to use: one more for each pending entry; places that it may come to write: one more for each stored sample
+unfoldable pub needs : Spot → ℕ
+needs s = s .rows + length (at 0 s)
 
--- room for a row for each pending entry, and in the list for each stored sample
+unfoldable pub wants : Spot → ℕ
+wants s = s .out + (count (λ e. isSample e) (at 0 s) + count (λ e. isSample e) (at 1 s))
+
 pub record Fit (s : Spot) : Type 0 where
-  pub rows : s .rows + length (staged 0 (rowsIn (s .rows) (s .words))) ≤ 512
-  pub list : s .out + (count (λ e. isSample e) (staged 0 (rowsIn (s .rows) (s .words))) + count (λ e. isSample e) (staged 1 (rowsIn (s .rows) (s .words)))) ≤ length (s .list)
+  pub rows : needs s ≤ 512
+  pub room : wants s ≤ length (s .list)
 
--- from one spot to the next the work goes by f
-pub record Goes (f : Work ℕ → Work ℕ) (s t : Spot) : Type 0 where
-  pub tied : (i : ℕ) (from : Spot) (w : Work ℕ) → Tied i from s w → Tied i from t (f w)
-  pub fit : Fit s → Fit t
+-- from one spot to the next group i's work goes by f, with at most so many rows and places more
+pub record GoesBy (a b i : ℕ) (f : Work ℕ → Work ℕ) (s t : Spot) : Type 0 where
+  pub tied : (from : Spot) (w : Work ℕ) → Tied i from s w → Tied i from t (f w)
+  pub rows : needs t ≤ a + needs s
+  pub room : wants t ≤ b + wants s
+  pub same : length (t .list) ≡ length (s .list)
 
--- the same where the lent list is not touched
-abbrev pub GoesRows : (Work ℕ → Work ℕ) → List ℕ → ℕ → List ℕ → ℕ → Type 0
-GoesRows f l n m r = (o : List ℕ) (k : ℕ) → Goes f (spot l n o k) (spot m r o k)
+abbrev pub Goes : ℕ → (Work ℕ → Work ℕ) → Spot → Spot → Type 0
+Goes i f s t = GoesBy 0 0 i f s t
+
+-- the same where the lent list is not touched, of any group
+abbrev pub GoesRows : (Work ℕ → Work ℕ) → List ℕ → ℕ → List ℕ → Type 0
+GoesRows f l n m = (i : ℕ) (o : List ℕ) (k : ℕ) → Goes i f (spot l n o k) (spot m n o k)
+
+unfoldable pub withPending : List (Entry ℕ) → Work ℕ → Work ℕ
+withPending l w = record { committed = w .committed; pending = l; held = w .held; out = w .out; lost = w .lost; counts = w .counts }
+
+-- what a release of group i reads and does not change
+unfoldable pub turnAt : ℕ → List ℕ → ℕ → List ℕ → Turn
+turnAt i v now l = turnOf (viewOf v) now (getD l 3 0) (writersOf l) (groupAt l i)
+
+-- the first row of a pending number of the group; the number of rows if there is none
+abbrev pub headAt : Guid → Option ℕ → List Row → ℕ
+headAt g none rs = length rs
+headAt g (some m) rs = indexOf (λ x. eqb (x .stage) 0 && (ofGroup g (x .entry) && eqb m (x .entry .number))) rs
+
+-- a round: it stops and nothing changes, or goes to the next spot
+abbrev pub roundTo : Turn → Work ℕ → Work ℕ
+roundTo t w = orStop (λ v. v) w (round t w)
+
+pub record Rounds (i : ℕ) (t : Turn) (went : Bool) (s e : Spot) : Type 0 where
+  pub goes : Goes i (λ w. roundTo t w) s e
+  pub went-on : (from : Spot) (w : Work ℕ) → Tied i from s w → isSome (round t w) ≡ went
+
+-- the turn of each group in a release
+unfoldable pub turns : List ℕ → ℕ → List ℕ → Group → Turn
+turns v now l g = turnOf (viewOf v) now (getD l 3 0) (writersOf l) g
+
+-- the first i groups are released
+pub record ReleasedTo (i : ℕ) (v : List ℕ) (now : ℕ) (s e : Spot) : Type 0 where
+  pub carries : (o : List ℕ) (w : Work ℕ) → Carries o s w → Carries o e (releaseAll (λ g. turns v now (s .words) g) (take i (groupsOf (s .words))) w .1)
+  pub groups : (o : List ℕ) (w : Work ℕ) → Carries o s w
+      → groupsOf (e .words) ≡ releaseAll (λ g. turns v now (s .words) g) (take i (groupsOf (s .words))) w .0 ++ drop i (groupsOf (s .words))
+  pub writers : writersOf (e .words) ≡ writersOf (s .words)
+  pub timeout : getD (e .words) 3 0 ≡ getD (s .words) 3 0
+  pub rows : needs e ≤ needs s
+  pub room : wants e ≤ wants s
+  pub same : length (e .list) ≡ length (s .list)
+
+-- the rows in use are the entries stored
+pub record Compacted (n r : ℕ) (l m : List ℕ) : Type 0 where
+  pub pending : staged 0 (rowsIn r m) ≡ staged 0 (rowsIn n l)
+  pub held : staged 1 (rowsIn r m) ≡ staged 1 (rowsIn n l)
+  pub rows : r ≡ length (staged 0 (rowsIn n l)) + length (staged 1 (rowsIn n l))
+  pub head : take 840 m ≡ take 840 l
+  pub long : length m ≡ 6984
 
 -- a count of the header becomes c, and nothing else changes
 pub record Counted (at c : ℕ) (l m : List ℕ) : Type 0 where
@@ -92,3 +156,15 @@ pub record Counted (at c : ℕ) (l m : List ℕ) : Type 0 where
 -- r is the lowest number of a set of group g that is neither ended nor the set `own`
 abbrev pub Stalest : Guid → Option ℤ → Option ℤ → List (Entry ℕ) → Type 0
 Stalest g own r l = (e : Entry ℕ) → e .group ≡ g → e .set ≡ own → r ≡ lowestStale e l
+
+-- r is the lower of h's set number and low, if h's set is neither ended nor `own`; else low
+abbrev pub LowerStale : Guid → Option ℤ → Option ℤ → Option ℤ → Entry ℕ → List (Entry ℕ) → Type 0
+LowerStale g own low r h l = (e : Entry ℕ) → e .group ≡ g → e .set ≡ own → r ≡ cond (isStale e l h) (lesser (h .set) low) low
+
+-- every set of the group that is neither ended nor `own` is discarded
+abbrev pub StaleGone : Guid → Option ℤ → List ℕ → ℕ → List ℕ → Type 0
+StaleGone g own l n m = (e : Entry ℕ) → e .group ≡ g → e .set ≡ own → GoesRows (λ w. discardStale (length (w .held)) e w) l n m
+
+-- the entries of the number leave pending, in offer order, and are committed one by one
+unfoldable pub commitHeads : Guid → ℕ → Work ℕ → Work ℕ
+commitHeads g n w = commitAll (headFor g n (w .pending)) (withPending (keep (λ e. not (ofGroup g e && eqb n (e .number))) (w .pending)) w)

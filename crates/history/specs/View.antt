@@ -1,7 +1,7 @@
 -- What the words of a group view mean: the counted rows and the digest rows of a release, and whether there were more than it holds.
 use Prim.Native.Nat.{ℕ, _+_, _*_, _%_, _^_, min, _<_}
 use mathlib.Core.Bool.{Bool, true, false, not, _||_, cond}
-use mathlib.Core.List.{List, [], _∷_, _++_}
+use mathlib.Core.List.{List, [], _∷_, _++_, map}
 use mathlib.Core.Path.{_≡_}
 use lib.Dec.{eqb, ltb}
 use lib.ListN.{take, drop, getD, length}
@@ -75,3 +75,18 @@ pub record NotedDigest (d : D.DigestRow) (v u : List ℕ) : Type 0 where
   pub pairs : pairsOf u ≡ pairsOf v
   pub digests : digestsOf u ≡ cond (ltb (length (digestsOf v)) 8) (digestsOf v ++ (digestRowAs d ∷ [])) (digestsOf v)
   pub any-more : more u ≡ (more v || not (ltb (length (digestsOf v)) 8))
+
+-- all rows of a list, one by one
+abbrev pub Steps : {R : Type 0} → (R → List ℕ → List ℕ → Type 0) → List R → List ℕ → List ℕ → Type 0
+Steps Step [] v u = v ≡ u
+Steps Step (x ∷ xs) v u = (w : List ℕ) × (Step x v w × Steps Step xs w u)
+
+-- what lists of rows stand for
+unfoldable pub rowsAs : List P.Pair → List D.DigestRow → View
+rowsAs ps ds = record { counted = map (λ p. pairAs p) ps; digests = map (λ d. digestRowAs d) ds }
+
+-- a view has noted lists of rows: the first 256 and the first 8, and whether there were more
+pub record NotedRows (ps : List P.Pair) (ds : List D.DigestRow) (v : List ℕ) : Type 0 where
+  pub pairs : pairsOf v ≡ take 256 (map (λ p. pairAs p) ps)
+  pub digests : digestsOf v ≡ take 8 (map (λ d. digestRowAs d) ds)
+  pub any-more : more v ≡ (ltb 256 (length ps) || ltb 8 (length ds))

@@ -95,7 +95,7 @@ pub(crate) fn is_young(store: &[u64; 6984], n: usize, i: usize, at: u64) -> bool
 }
 
 // Row i fits and marks its set ended.
-fn marks_at(store: &[u64; 6984], i: usize, q: Query) -> bool
+pub(crate) fn marks_at(store: &[u64; 6984], i: usize, q: Query) -> bool
     requires { ⌜ i < 512 ⌝ }
     ensures { λ r. ⌜ r ≡ (fits q (rowAt i (now (store .entry))) && marks (rowAt i (now (store .entry)) .entry)) ⌝ }
 {

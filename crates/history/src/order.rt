@@ -244,7 +244,7 @@ impl GroupOrder {
     }
 }
 
-fn entry_count(store: &[u64; 6984]) -> usize
+pub(crate) fn entry_count(store: &[u64; 6984]) -> usize
     ensures { λ r. ⌜ r ≡ min (getD (now (store .entry)) 2 0) 256 ⌝ }
 {
     let n = word(store, 2);

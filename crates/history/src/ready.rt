@@ -16,18 +16,19 @@ use group_order::number::Marks;
 use group_order::number::lowest_open;
 ghost use mathlib.Core.Path.{_≡_};
 ghost use mathlib.Core.Bool.{true};
-ghost use Prim.Native.Nat.{_-_, _<_, _≤_};
+ghost use Prim.Native.Nat.{ℕ, _-_, _<_, _≤_, _^_};
 ghost use mathlib.Core.List.{[]};
 ghost use lib.Dec.{ltb};
 ghost use lib.ListN.{length, getD};
 ghost use Rattle.group_order.specs.Lists.{all};
 ghost use Rattle.group_order.specs.State.{writerOf, newWriter};
 ghost use Rattle.group_order.specs.Marks.{pastOf, pastMarks};
-ghost use Rattle.group_order.specs.Commit.{allFrom, secureAccepted};
-ghost use Rattle.history.specs.Store.{digestOf, rowAt, rowsIn, staged, writersOf};
+ghost use Rattle.group_order.specs.Commit.{allFrom, secureAccepted, ruledOut, ready};
+ghost use Rattle.history.specs.Store.{digestOf, rowAt, rowsIn, staged, writersOf, groupsOf};
 ghost use Rattle.history.specs.View.{pairsFor, pairsOf, digestsOf};
 ghost use Rattle.history.specs.Records.{keyAs};
 ghost use Rattle.history.specs.Ready.{pairFrom, rowPast, writerFine, digestsFine, headFor, rowCopied, arrivedFor, rowArrived, arrived};
+ghost use Rattle.history.specs.Tied.{groupAt, turnAt};
 
 // Whether a number is past by a pair's marks.
 pub(crate) fn is_past(m: Marks, n: u64) -> bool
@@ -244,4 +245,49 @@ fn copies_arrived(
         i += 1;
     }
     true
+}
+
+// Announced reaches the number, every digest is accepted, and every counted pair is past every missing number.
+fn ruled_out(
+    store: &[u64; 6984],
+    view: &[u64; 1307],
+    i: usize,
+    group: Key,
+    committed: u64,
+    number: u64,
+) -> bool
+    requires { ⌜ (i < length (groupsOf (now store))) × (keyAs group ≡ groupAt (now store) i .guid) × (committed < 2 ^ 63) × (all (λ p. ltb (p .reader) 8) (pairsOf (now view)) ≡ true) ⌝ }
+    ensures { λ r. ⌜ ((t : ℕ) → r ≡ ruledOut (turnAt i (now (view .entry)) t (now (store .entry))) committed number) ⌝ }
+{
+    let announced = word(store, 8 + i * 4 + 3);
+    if announced < number {
+        return false;
+    }
+    if !digests_fine(store, view, group) {
+        return false;
+    }
+    let missing = committed + 1;
+    if missing < number {
+        return pairs_past(store, view, group, missing, number);
+    }
+    true
+}
+
+// The number is the next one or those before it are ruled out, and its copies arrived.
+pub(crate) fn is_ready(
+    store: &[u64; 6984],
+    view: &[u64; 1307],
+    n: usize,
+    i: usize,
+    group: Key,
+    committed: u64,
+    number: u64,
+) -> bool
+    requires { ⌜ (n ≤ 512) × (i < length (groupsOf (now store))) × (keyAs group ≡ groupAt (now store) i .guid) × (committed < 2 ^ 63) × (all (λ p. ltb (p .reader) 8) (pairsOf (now view)) ≡ true) ⌝ }
+    ensures { λ r. ⌜ ((t : ℕ) → r ≡ ready (turnAt i (now (view .entry)) t (now (store .entry))) committed number (staged 0 (rowsIn n (now (store .entry))))) ⌝ }
+{
+    if number == committed + 1 || ruled_out(store, view, i, group, committed, number) {
+        return copies_arrived(store, view, n, group, number);
+    }
+    false
 }

@@ -1,0 +1,58 @@
+-- Every chain of calls from a new history has all of the third demand: each contract is a step of the definitions.
+use Prim.Native.Nat.{ℕ}
+use mathlib.Core.Path.{_≡_, refl, sym, ap, subst, _∙_}
+use mathlib.Core.List.{List, [], _∷_, map}
+use lib.ListN.{length}
+use Rattle.coherent_set.specs.Answer.{Answer, refused, answered}
+use Rattle.group_order.specs.State.{State, fresh}
+use Rattle.group_order.specs.Release.{Outcome, release}
+use Rattle.group_order.specs.Run.{Call, Said, saidOffer, saidDone, saidRelease, step, run, answers, written, waiting}
+use Rattle.group_order.proofs.Demand3.{demand3}
+use Rattle.history.specs.Store.{stateOf}
+use Rattle.history.specs.View.{rowsAs}
+use Rattle.history.specs.Calls.{countOut, releaseTo}
+use Rattle.history.specs.Chain.{Done, didOffer, didHeartbeat, didGap, didRelease, Meets, Chain, ends, goes, callOf, counted, Agrees, AllAgree, none, more, CodeDemand3}
+
+-- a release's count is that of what it handed out
+count-said : (a : Answer (Outcome ℕ)) → countOut a ≡ counted (saidRelease a)
+count-said (refused n) = refl
+count-said (answered r) = refl
+
+-- one call
+agrees : (l : List ℕ) (d : Done) (m : List ℕ) → Meets l d m → Agrees (step (stateOf l) (callOf d) .0) d
+unfolding Meets Agrees callOf step releaseTo
+agrees l (didOffer o r) m x = ap (λ y. saidOffer (y .0)) (x .0)
+agrees l (didHeartbeat h r) m x = ap (λ y. saidDone (y .0)) (x .0)
+agrees l (didGap g r) m x = ap (λ y. saidDone (y .0)) (x .0)
+agrees l (didRelease ps ds now o r p) m x =
+    (ap (λ y. y .0) (x .0) ∙ count-said (release (stateOf l) (rowsAs ps ds) now (length o) .0), ap (λ y. y .2) (x .0))
+
+steps : (l : List ℕ) (d : Done) (m : List ℕ) → Meets l d m → stateOf m ≡ step (stateOf l) (callOf d) .1
+unfolding Meets callOf step releaseTo
+steps l (didOffer o r) m x = ap (λ y. y .1) (x .0)
+steps l (didHeartbeat h r) m x = ap (λ y. y .1) (x .0)
+steps l (didGap g r) m x = ap (λ y. y .1) (x .0)
+steps l (didRelease ps ds now o r p) m x = ap (λ y. y .1) (x .0)
+
+-- the whole chain
+chain-answers : {l m : List ℕ} {ds : List Done} (s : State ℕ) → stateOf l ≡ s → Chain l ds m → AllAgree (answers s (map (λ d. callOf d) ds)) ds
+unfolding answers
+chain-answers s e ends = none
+chain-answers {l = l} s e (goes {k = k} {d = d} x c) =
+    more (subst (λ a. Agrees (step a (callOf d) .0) d) e (agrees l d k x)) (chain-answers (step s (callOf d) .1) (steps l d k x ∙ ap (λ a. step a (callOf d) .1) e) c)
+
+chain-state : {l m : List ℕ} {ds : List Done} (s : State ℕ) → stateOf l ≡ s → Chain l ds m → stateOf m ≡ run s (map (λ d. callOf d) ds)
+unfolding run
+chain-state s e ends = e
+chain-state {l = l} s e (goes {k = k} {d = d} x c) = chain-state (step s (callOf d) .1) (steps l d k x ∙ ap (λ a. step a (callOf d) .1) e) c
+
+pub code-demand3 : (t : ℕ) (l m : List ℕ) (ds : List Done) → stateOf l ≡ fresh t → Chain l ds m → CodeDemand3 t ds m
+code-demand3 t l m ds e c =
+    let s = chain-state (fresh t) e c in
+    let d = demand3 t (map (λ x. callOf x) ds) in
+    record {
+      answers-are = chain-answers (fresh t) e c;
+      state-is = s;
+      waiting-is = λ r. ap (λ a. waiting a r) s ∙ sym (d .waiting-same r);
+      demand = d;
+    }

@@ -1,0 +1,25 @@
+-- `release::committed_at` meets its contract: the committed number is the group's third word.
+use mathlib.Core.List.{[]}
+use native.Mathlib.Omega.{arith}
+use Rattle.group_order.specs.State.{newGroup}
+use Rattle.history.proofs.StoreLaws.{few-groups, group-committed}
+use Rattle.history.proofs.release.committed_at.Statement.{statement}
+use Rattle.history.proofs.release.committed_at.Tie as tie
+
+mul-word : tie.Need-mul-word
+mul-word c = omega (arith, few-groups (c .args .store .now))
+
+add-word : tie.Need-add-word
+add-word c = omega (arith, few-groups (c .args .store .now))
+
+add-word-2 : tie.Need-add-word-2
+add-word-2 c = omega (arith, few-groups (c .args .store .now))
+
+word-requires : tie.Need-word-requires
+word-requires c κs = omega (arith, few-groups (c .args .store .now))
+
+returns : tie.Need-returns
+returns c = rw (group-committed (c .before .args .store .now) (c .before .args .i) (newGroup []) (c .before .pre), c .word .ensures)
+
+pub committed-at-spec : {M : Type 1} → statement M
+committed-at-spec = tie.close (tie.spec mul-word add-word add-word-2 word-requires returns)
