@@ -25,3 +25,5 @@ pub mod Settling
 pub mod Releasing
 pub mod Answering
 pub mod Chained
+pub mod Own
+pub mod Noting

@@ -11,6 +11,6 @@ pub mod release;
 mod rows;
 mod sets;
 mod steps;
-mod view;
+pub mod view;
 mod words;
 mod writers;

@@ -4,6 +4,7 @@ use crate::groups::group_count;
 use crate::key::Key;
 use crate::leaving::is_young;
 use crate::leaving::marks_at;
+use crate::order::GroupOrder;
 use crate::order::entry_count;
 use crate::query::Query;
 use crate::ready::is_ready;
@@ -17,7 +18,12 @@ use crate::steps::add_count;
 use crate::steps::commit_heads;
 use crate::steps::finish_set;
 use crate::steps::lower_set;
+use crate::view::DigestRow;
+use crate::view::Pair;
+use crate::view::clear;
 use crate::view::is_malformed;
+use crate::view::note_digests;
+use crate::view::note_pairs;
 use crate::words::put_word;
 use crate::words::whole;
 use crate::words::word;
@@ -33,9 +39,9 @@ ghost use Rattle.group_order.specs.Sets.{lowestEnded};
 ghost use Rattle.group_order.specs.Commit.{Turn, lowestNumber};
 ghost use Rattle.group_order.specs.Release.{commit, rounds, enough};
 ghost use Rattle.history.specs.Store.{rowAt, rowsIn, staged, groupsOf, stateOf};
-ghost use Rattle.history.specs.View.{pairsOf};
+ghost use Rattle.history.specs.View.{pairsOf, rowsAs, NotedRows};
 ghost use Rattle.history.specs.Records.{keyAs, optionalAs};
-ghost use Rattle.history.specs.Calls.{releasedAs, releaseNoted, Kept};
+ghost use Rattle.history.specs.Calls.{releasedAs, releaseNoted, releaseTo, Kept};
 ghost use Rattle.history.specs.Tied.{spot, groupAt, headAt, Fit, Goes, Rounds, turnAt, ReleasedTo, Compacted};
 
 // The ended set with the lowest set number.
@@ -294,7 +300,7 @@ pub enum Released {
 }
 
 // The release on the rows that a view has noted.
-fn release_noted(
+pub fn release_noted(
     store: &mut [u64; 6984],
     view: &[u64; 1307],
     time: u64,
@@ -315,4 +321,37 @@ fn release_noted(
     let k = compact(store, p.rows);
     put_word(store, 2, k as u64);
     Released::Out(p.out)
+}
+
+// The same with the view lent, which stays as it is.
+fn release_lent(
+    store: &mut [u64; 6984],
+    view: &mut [u64; 1307],
+    time: u64,
+    out: &mut [u64],
+) -> Released
+    ensures { λ r. ⌜ ((releasedAs r, stateOf (now (store .exit)), now (out .exit)) ≡ releaseNoted (now (view .entry)) (stateOf (now (store .entry))) time (now (out .entry))) × (Kept (releasedAs r) (now (store .entry)) (now (store .exit)) × (now (view .exit) ≡ now (view .entry))) ⌝ }
+{
+    release_noted(store, view, time, out)
+}
+
+impl GroupOrder {
+    // The release on lists of rows, which it notes in the view.
+    pub fn release(
+        store: &mut [u64; 6984],
+        view: &mut [u64; 1307],
+        counted: &[Pair],
+        digests: &[DigestRow],
+        time: u64,
+        out: &mut [u64],
+    ) -> Released
+        ensures is { λ r. ⌜ (releasedAs r, stateOf (now (store .exit)), now (out .exit)) ≡ releaseTo (stateOf (now (store .entry))) (rowsAs (now (counted .entry)) (now (digests .entry))) time (now (out .entry)) ⌝ }
+        ensures kept { λ r. ⌜ Kept (releasedAs r) (now (store .entry)) (now (store .exit)) ⌝ }
+        ensures view { λ _. ⌜ NotedRows (now (counted .entry)) (now (digests .entry)) (now (view .exit)) ⌝ }
+    {
+        clear(view);
+        note_pairs(view, counted);
+        note_digests(view, digests);
+        release_lent(store, view, time, out)
+    }
 }

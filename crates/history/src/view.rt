@@ -12,7 +12,7 @@ ghost use Rattle.group_order.specs.Release.{malformed};
 ghost use Rattle.history.specs.Store.{digestOf};
 ghost use Rattle.group_order.specs.Guid.{sameGuid};
 ghost use Rattle.group_order.specs.Lists.{any};
-ghost use Rattle.history.specs.View.{pairsOf, digestsOf, digestRowAt, viewOf, more, PairAt, Cleared, Noted, NotedDigest};
+ghost use Rattle.history.specs.View.{pairsOf, digestsOf, digestRowAt, viewOf, more, PairAt, Cleared, Noted, NotedDigest, Steps};
 ghost use Rattle.history.specs.Records.{keyAs};
 
 // A counted row: a writer of a group and a reader that it is matched with.
@@ -119,6 +119,17 @@ pub fn note_pair(view: &mut [u64; 1307], row: Pair)
     }
 }
 
+// The counted rows of a list, one by one.
+pub fn note_pairs(view: &mut [u64; 1307], counted: &[Pair])
+    ensures { λ _. ⌜ Steps Noted (now (counted .entry)) (now (view .entry)) (now (view .exit)) ⌝ }
+{
+    let mut i = 0;
+    while i < counted.len() {
+        note_pair(view, counted[i]);
+        i += 1;
+    }
+}
+
 // One digest row more; where 8 are noted, that there were more.
 pub fn note_digest(view: &mut [u64; 1307], row: DigestRow)
     ensures { λ _. ⌜ NotedDigest row (now (view .entry)) (now (view .exit)) ⌝ }
@@ -135,6 +146,17 @@ pub fn note_digest(view: &mut [u64; 1307], row: DigestRow)
         view[1] = (n + 1) as u64;
     } else {
         view[2] = 1;
+    }
+}
+
+// The digest rows of a list, one by one.
+pub fn note_digests(view: &mut [u64; 1307], digests: &[DigestRow])
+    ensures { λ _. ⌜ Steps NotedDigest (now (digests .entry)) (now (view .entry)) (now (view .exit)) ⌝ }
+{
+    let mut i = 0;
+    while i < digests.len() {
+        note_digest(view, digests[i]);
+        i += 1;
     }
 }
 
