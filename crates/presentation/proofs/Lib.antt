@@ -1,0 +1,4 @@
+pub mod Packing
+pub mod Shifting
+pub mod TbfLaws
+pub mod TbfOrder

@@ -1,0 +1,145 @@
+-- Laws of the filter hold.
+use Prim.Native.Nat.{ℕ, zero, suc, _+_, _*_, _/_, _%_, _≤_, _<_, min}
+use mathlib.Core.Path.{_≡_, refl, sym, ap, _∙_}
+use mathlib.Core.Bool.{Bool, true, false, _&&_, _||_, not, cond}
+use mathlib.Core.List.{List, [], _∷_, _++_, append-assoc, map}
+use native.Mathlib.Numerals.{add-one}
+use native.Mathlib.Omega.{arith}
+use borrow.Author.Tests.{ltb-true, lt-leb, eq-eqb, ne-eqb}
+use lib.Dec.{T, leb, eqb}
+use lib.IntN.{ℤ, pos, negsuc, natAbs}
+use lib.Signed.{ltZ, nonNeg}
+use lib.ListN.{length, take, drop, set, getD, length-append, length-map, length-take}
+use lib.Seq.{take-suc, drop-cons, set-at, drop-length, getD-take, length-take-le}
+use mir.Syntax.{w32}
+use mir.Val.{SFits}
+use Rattle.coherent_set.specs.Answer.{eqZ}
+use Rattle.group_order.specs.Lists.{keep, any}
+use Rattle.group_order.proofs.Lists.{keep-fewer, not-both}
+use Rattle.presentation.specs.declared.tbf.Held.{Held}
+use Rattle.presentation.specs.declared.tbf.TbfHold.{TbfHold}
+use Rattle.presentation.specs.Tbf.{fromZero, timeOf, words, written, isOf, supersede, holdAs}
+
+-- what the code reads past an array's end
+abbrev pub free : Held
+free = record { instance = 0; item = 0; due = record { sec = pos 0; nanosec = 0 } }
+
+-- the array's length, from what fits it
+pub arr-len : {X Y : Type 0} (f : X → Y) (l : List X) (n : ℕ) → length (map f l) ≡ n → length l ≡ n
+arr-len f l n e = sym (length-map l f) ∙ e
+
+-- ---- times
+
+-- below 0
+pub negative-zero : (z : ℤ) → ltZ z (pos 0) ≡ true → fromZero z ≡ 0
+negative-zero (pos n) e = let h = ltb-true n 0 e in omega arith
+negative-zero (negsuc n) e = refl
+
+pub whole-from : (z : ℤ) → ltZ z (pos 0) ≡ false → T (nonNeg z) × (natAbs z ≡ fromZero z)
+whole-from (pos n) e = (tt, refl)
+whole-from (negsuc n) e = not-both true refl e
+
+pub from-zero-small : (z : ℤ) → SFits w32 z → fromZero z < 2147483648
+from-zero-small (pos n) f = omega (arith, f .sfits)
+from-zero-small (negsuc n) f = omega arith
+
+-- seconds and nanoseconds below one second, together a number of nanoseconds
+pub time-split : (s r total : ℕ) → r < 1000000000 → s * 1000000000 + r ≡ total
+    → timeOf total ≡ record { sec = pos (min s 2147483647); nanosec = r }
+unfolding timeOf
+time-split s r total h e =
+    let q : total / 1000000000 ≡ s = omega arith in
+    let m : total % 1000000000 ≡ r = omega arith in
+    rw (q, m)
+
+pub eqZ-same : (a b : ℤ) → a ≡ b → eqZ a b ≡ true
+eqZ-same (pos m) b e = rw (← e) (eq-eqb m m refl)
+eqZ-same (negsuc m) b e = rw (← e) (eq-eqb m m refl)
+
+-- ---- the first n of a list, from a place on
+
+pub from-place : (l : List Held) (n i : ℕ) → i < n → n ≤ length l → drop i (take n l) ≡ getD l i free ∷ drop (i + 1) (take n l)
+from-place l n i h k =
+    let e : length (take n l) ≡ n = length-take-le n l k in
+    drop-cons (take n l) i free (omega arith)
+    ∙ ap (λ x. x ∷ drop (suc i) (take n l)) (getD-take n l i free h)
+    ∙ ap (λ j. getD l i free ∷ drop j (take n l)) (sym (add-one i))
+
+pub none-behind : (l : List Held) (n : ℕ) → n ≤ length l → drop n (take n l) ≡ []
+none-behind l n k = ap (λ j. drop j (take n l)) (sym (length-take-le n l k)) ∙ drop-length (take n l)
+
+-- nothing is taken exactly where n is 0
+pub take-none : (n : ℕ) (l : List Held) → 0 < length l → eqb n 0 ≡ eqb (length (take n l)) 0
+take-none zero l h = refl
+take-none (suc n) [] h = absurd (omega arith)
+take-none (suc n) (x ∷ l) h = ne-eqb (suc n) 0 (λ e. omega arith) ∙ sym (ne-eqb (suc (length (take n l))) 0 (λ e. omega arith))
+
+-- ---- what is held
+
+pub take-few : (h : TbfHold) → length (h .held) ≡ 32 → length (holdAs h) ≤ 32
+unfolding holdAs
+take-few h e = omega (arith, length-take (h .len) (h .held))
+
+none-leaves : (p : Held → Bool) (l : List Held) → any p l ≡ false → keep (λ x. not (p x)) l ≡ l
+unfolding any keep
+none-leaves p [] h = refl
+none-leaves p (x ∷ l) h =
+    (elim (p x) as (λ b. b || any p l ≡ false → cond (not b) (x ∷ keep (λ x. not (p x)) l) (keep (λ x. not (p x)) l) ≡ x ∷ l) [
+      | true ↦ λ e. not-both true refl e
+      | false ↦ λ e. ap (λ m. x ∷ m) (none-leaves p l e)
+    ]) h
+
+-- a new instance finds all 32 places taken exactly where the others take them all
+pub full-same : (k : ℕ) (l : List Held) → length l ≤ 32 → not (any (λ x. isOf k x) l) && leb 32 (length l) ≡ leb 32 (length (supersede k l))
+unfolding supersede
+full-same k l h =
+    (elim (any (λ x. isOf k x) l) as (λ b. any (λ x. isOf k x) l ≡ b → not b && leb 32 (length l) ≡ leb 32 (length (keep (λ x. not (isOf k x)) l))) [
+      | true ↦ λ e. sym (lt-leb 32 (length (keep (λ x. not (isOf k x)) l)) (omega (arith, keep-fewer (λ x. isOf k x) l e)))
+      | false ↦ λ e. ap (λ m. leb 32 (length m)) (sym (none-leaves (λ x. isOf k x) l e))
+    ]) refl
+
+-- ---- the words of samples
+
+pub words-append : (l m : List Held) → words (l ++ m) ≡ words l ++ words m
+unfolding words
+words-append [] m = refl
+words-append (x ∷ l) m = ap (λ y. x .instance ∷ x .item ∷ y) (words-append l m)
+
+pub length-words : (l : List Held) → length (words l) ≡ length l * 2
+unfolding words
+length-words [] = refl
+length-words (x ∷ l) = let ih = length-words l in omega arith
+
+-- two places written behind a front
+two-set : (w r : List ℕ) (y z a b k : ℕ) → length w ≡ k → set (set (w ++ (y ∷ z ∷ r)) k a) (k + 1) b ≡ w ++ (a ∷ b ∷ r)
+two-set w r y z a b k h =
+    let e : length (w ++ (a ∷ [])) ≡ k + 1 = length-append w (a ∷ []) ∙ omega arith in
+    ap (λ x. set x (k + 1) b) (set-at w y (z ∷ r) a k h)
+    ∙ ap (λ x. set x (k + 1) b) (sym (append-assoc w (a ∷ []) (z ∷ r)))
+    ∙ set-at (w ++ (a ∷ [])) z r b (k + 1) e
+    ∙ append-assoc w (a ∷ []) (b ∷ r)
+
+-- the samples of l are written
+pub written-more : (l : List Held) (x : Held) (out : List ℕ) → length l * 2 + 2 ≤ length out
+    → set (set (written l out) (length l * 2) (x .instance)) (length l * 2 + 1) (x .item) ≡ written (l ++ (x ∷ [])) out
+unfolding written words
+written-more l x out h =
+    let k : ℕ = length l * 2 in
+    let e : length (l ++ (x ∷ [])) * 2 ≡ suc (suc k) = ap (λ n. n * 2) (length-append l (x ∷ [])) ∙ omega arith in
+    let two : drop k out ≡ getD out k 0 ∷ getD out (suc k) 0 ∷ drop (suc (suc k)) out = drop-cons out k 0 (omega arith) ∙ ap (λ y. getD out k 0 ∷ y) (drop-cons out (suc k) 0 (omega arith)) in
+    ap (λ y. set (set (words l ++ y) k (x .instance)) (k + 1) (x .item)) two
+    ∙ two-set (words l) (drop (suc (suc k)) out) (getD out k 0) (getD out (suc k) 0) (x .instance) (x .item) k (length-words l)
+    ∙ sym (append-assoc (words l) (x .instance ∷ x .item ∷ []) (drop (suc (suc k)) out))
+    ∙ ap (λ y. y ++ drop (suc (suc k)) out) (sym (words-append l (x ∷ [])))
+    ∙ ap (λ n. words (l ++ (x ∷ [])) ++ drop n out) (sym e)
+
+-- one sample more of an array is written
+pub written-at : (held : List Held) (out₀ out : List ℕ) (i : ℕ) → out ≡ written (take i held) out₀ → i < length held → i * 2 + 2 ≤ length out₀
+    → set (set out (i * 2) (getD held i free .instance)) (i * 2 + 1) (getD held i free .item) ≡ written (take (i + 1) held) out₀
+written-at held out₀ out i e h k =
+    let n : length (take i held) ≡ i = length-take-le i held (omega arith) in
+    let x : Held = getD held i free in
+    ap (λ o. set (set o (i * 2) (x .instance)) (i * 2 + 1) (x .item)) e
+    ∙ ap (λ j. set (set (written (take i held) out₀) (j * 2) (x .instance)) (j * 2 + 1) (x .item)) (sym n)
+    ∙ written-more (take i held) x out₀ (omega arith)
+    ∙ ap (λ l. written l out₀) (sym (ap (λ j. take j held) (add-one i) ∙ take-suc held i free h))
