@@ -1,4 +1,6 @@
 pub mod Packing
 pub mod Shifting
+pub mod GateLaws
+pub mod GateCalls
 pub mod TbfLaws
 pub mod TbfOrder
