@@ -4,3 +4,4 @@ pub mod GateLaws
 pub mod GateCalls
 pub mod TbfLaws
 pub mod TbfOrder
+pub mod PLines
