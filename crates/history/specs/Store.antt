@@ -9,20 +9,12 @@ use lib.Dec.{eqb}
 use lib.ListN.{take, drop, getD}
 use mir.Syntax.{w64}
 use mir.Val.{toZ}
-use Rattle.coherent_set.specs.Marker.{bytesOf}
 use Rattle.group_order.specs.Lists.{keep}
-use Rattle.group_order.specs.Guid.{Guid}
 use Rattle.group_order.specs.Entry.{What, sample, setEnd, Entry}
 use Rattle.group_order.specs.State.{State, Group, Writer, Counts}
-use Rattle.history.specs.Table.{table}
-
--- a GUID is two words, big-endian
-unfoldable pub guidOf : ℕ → ℕ → Guid
-guidOf h l = bytesOf 8 h ++ bytesOf 8 l
-
--- an optional digest: 0, or one more than the digest
-abbrev pub digestOf : ℕ → Option ℕ
-digestOf w = cond (eqb w 0) none (some ((w - 1) % 2 ^ 32))
+use Rattle.group_view.specs.Table.{table}
+use Rattle.group_view.specs.Keys.{guidOf}
+use Rattle.group_view.specs.View.{digestOf}
 
 -- group: GUID, committed, announced
 unfoldable pub groupOf : List ℕ → Group
