@@ -72,9 +72,6 @@ pub pairs-from : (v : List ℕ) (i : ℕ) → i < length (pairsOf v) → drop i 
 unfolding pairsOf
 pairs-from v i h = counted-from (λ r. pairOf r) 5 256 3 0 v i h
 
-pub pairs-few : (v : List ℕ) → length (pairsOf v) ≤ 256
-pairs-few v = omega (arith, length-pairs v)
-
 -- counted row i as it is read
 pub pair-where : (v : List ℕ) (i j : ℕ) (r : Counted) → i ≡ j → PairAt i r v → PairAt j r v
 pair-where v i j r e at = subst (λ k. PairAt k r v) e at

@@ -67,6 +67,7 @@ fn digest_count(view: &[u64; 1307]) -> usize
     8
 }
 
+// The place of a counted row: 255 is the last.
 fn row_at(i: usize) -> usize
     ensures { λ r. ⌜ r ≡ min i 255 ⌝ }
 {
@@ -76,7 +77,7 @@ fn row_at(i: usize) -> usize
     255
 }
 
-// Counted row i; past the last one's place, the row there.
+// Counted row i; above 255, the row at 255.
 pub fn pair_at(view: &[u64; 1307], i: usize) -> Counted
     ensures { λ r. ⌜ PairAt (min i 255) r (now (view .entry)) ⌝ }
 {

@@ -1,32 +1,25 @@
 -- Counted pairs: a pair's end and members in the rows of the store; sets whose pairs all pass.
-use Prim.Native.Nat.{ℕ, _+_, _*_, _<_, _≤_, min}
+use Prim.Native.Nat.{ℕ, _<_, _≤_}
 use mathlib.Core.Path.{_≡_, refl, sym, ap, _∙_}
 use mathlib.Core.Bool.{Bool, true, false, _&&_, _||_, not, cond, Bool·not-not}
-use mathlib.Core.List.{List, [], _∷_}
+use mathlib.Core.List.{List}
 use mathlib.Core.Option.{some, none}
-use native.Mathlib.Omega.{arith}
-use native.Mathlib.Numerals.{add-one}
 use lib.IntN.{ℤ}
-use lib.ListN.{length, getD, take, drop}
-use lib.Seq.{drop-cons}
 use borrow.Author.Tests.{lt-ltb, le-ltb}
 use Rattle.group_order.specs.Lists.{all, any, count, find, indexOf, isSome}
 use Rattle.group_order.specs.Guid.{Guid, sameGuid}
 use Rattle.group_order.specs.Entry.{Entry, isEndOf}
 use Rattle.group_order.specs.Sets.{Pair, agrees, agreesE, agreesW, membersOfPair, endMissing, whole}
 use Rattle.history.specs.Store.{rowAt, rowsIn, staged}
-use Rattle.group_view.specs.View.{pairOf, pairsOf, pairFor, PairAt}
+use Rattle.group_view.specs.View.{pairFor}
 use Rattle.history.specs.Records.{Asks, fits, pairIn}
-use Rattle.group_view.specs.Keys.{keyAs}
 use Rattle.history.specs.Tied.{foundAt}
 use Rattle.history.specs.declared.query.Query.{Query}
-use Rattle.group_view.specs.declared.view.Counted.{Counted}
 use Rattle.history.proofs.Asked.{count-asked}
 use Rattle.history.proofs.Gone.{found-asked}
 use Rattle.group_order.proofs.Lists.{all-imp, find-any}
 use Rattle.history.proofs.Queries.{all-none}
 use Rattle.history.proofs.RowLaws.{and-false}
-use Rattle.group_view.proofs.Table.{length-stored, stored-get}
 
 -- a pair of another group passes; else its end is there and, where asked, agrees
 unfoldable pub passes : Bool → Guid → ℤ → List (Entry ℕ) → Pair → Bool

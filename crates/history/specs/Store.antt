@@ -1,8 +1,8 @@
 -- What the words of a store mean. Every content means something: lengths stop at the tables' sizes, readers, items and numbers are taken
 -- modulo their ranges. Words past a length mean nothing.
-use Prim.Native.Nat.{ℕ, suc, _+_, _-_, _*_, _/_, _%_, _^_, min}
+use Prim.Native.Nat.{ℕ, suc, _+_, _*_, _/_, _%_, _^_, min}
 use mathlib.Core.Bool.{Bool, true, false, not, cond}
-use mathlib.Core.List.{List, _++_, map}
+use mathlib.Core.List.{List, map}
 use mathlib.Core.Option.{Option, some, none}
 use lib.IntN.{ℤ}
 use lib.Dec.{eqb}

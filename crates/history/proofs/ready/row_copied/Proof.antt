@@ -1,10 +1,8 @@
 -- `group_order::ready::row_copied` meets its contract: one test that passes decides, and else the pair's marks.
 use mathlib.Core.Path.{sym, _∙_}
-use native.Mathlib.Omega.{arith}
 use Rattle.group_view.specs.Keys.{keyAs}
 use Rattle.history.specs.Store.{rowsIn}
 use Rattle.history.specs.Ready.{rowCopied}
-use Rattle.group_view.proofs.Views.{length-pairs}
 use Rattle.history.proofs.RowLaws.{passed, failed}
 use Rattle.history.proofs.ReadyLaws.{pair-read, reader-small, copy-any}
 use borrow.Author.Needs.{needs}

@@ -1,7 +1,5 @@
 -- `group_order::ready::row_past` meets its contract: of the group, the row's pair decides.
-use native.Mathlib.Omega.{arith}
 use Rattle.history.specs.Ready.{rowPast}
-use Rattle.group_view.proofs.Views.{length-pairs}
 use Rattle.history.proofs.ReadyLaws.{pair-read, reader-small}
 use borrow.Author.Needs.{needs}
 use Rattle.history.proofs.ready.row_past.Statement.{statement}

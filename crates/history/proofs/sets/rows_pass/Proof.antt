@@ -17,7 +17,7 @@ use Rattle.group_view.specs.Keys.{keyAs}
 use Rattle.history.proofs.Queries.{all-keep-or}
 use Rattle.group_view.proofs.Loops.{all-hit, all-miss}
 use Rattle.history.proofs.RowLaws.{passed, failed}
-use Rattle.group_view.proofs.Views.{pairs-few, pairs-read}
+use Rattle.group_view.proofs.Views.{pairs-read}
 use Rattle.history.proofs.PairLaws.{passes}
 use borrow.Author.Needs.{needs}
 use Rattle.history.proofs.sets.rows_pass.Statement.{statement}
