@@ -21,7 +21,8 @@ use Rattle.group_order.specs.Entry.{Entry, isSampleW, ofGroup}
 use Rattle.group_order.specs.State.{State, Group, Writer, isGroup, isWriter, newWriter, committedOf, stored}
 use Rattle.group_order.specs.Marks.{number, hearWriter, announcedTo, tell}
 use Rattle.group_order.specs.Offer.{Offer, Fate, isStored, isJoined, isLate, refusal, ninth, pair33, withMarks, entryOf, shares, replaced, fateOf, adds, offerRefusal, place, heardOffer, offered, offer}
-use Rattle.history.specs.Store.{groupsOf, writersOf, stateOf, digestOf}
+use Rattle.history.specs.Store.{groupsOf, writersOf, stateOf}
+use Rattle.group_view.specs.View.{digestOf}
 use Rattle.history.specs.Calls.{digestAs, digestWord}
 use Rattle.history.specs.declared.order.Digest.{Digest}
 use Rattle.history.specs.declared.order.Digest.the-variants as D

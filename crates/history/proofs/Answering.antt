@@ -18,13 +18,13 @@ use Rattle.group_order.specs.Release.{Work, malformed, turnOf, releaseAll, work
 use Rattle.group_order.specs.Run.{placeOf, saidRelease, written}
 use Rattle.group_order.proofs.Keeping.{releaseAll-stored}
 use Rattle.history.specs.Store.{rowsIn, rowsOf, staged, groupsOf, writersOf, countsOf, stateOf}
-use Rattle.history.specs.View.{pairsOf, digestsOf, more, viewOf}
+use Rattle.group_view.specs.View.{pairsOf, digestsOf, more, viewOf}
 use Rattle.history.specs.Calls.{countOut, releaseTo, releaseNoted}
 use Rattle.history.specs.Tied.{Spot, spot, Carries, needs, wants, Fit, turns, ReleasedTo, Compacted}
 use Rattle.history.proofs.Asked.{any-same, staged-le}
 use Rattle.history.proofs.Queries.{all-none}
 use Rattle.history.proofs.ReadyLaws.{less-not}
-use Rattle.history.proofs.Views.{unlikeIn, malformed-rows}
+use Rattle.group_view.proofs.Views.{unlikeIn, malformed-rows}
 use Rattle.history.proofs.RowLaws.{length-rows}
 use Rattle.history.proofs.StoreLaws.{head-groups, head-writers, head-counts, head-word, marks-set, rows-count, counts-set}
 

@@ -15,13 +15,14 @@ use Rattle.group_order.specs.Guid.{Guid}
 use Rattle.group_order.specs.Entry as E
 use Rattle.group_order.specs.State.{State, Group, Writer, Counts, plus, stored}
 use Rattle.group_order.specs.Offer.{oneLate, entryOf, shares, replaced, marked, keepEnd, markOf, join, place, isStored, isJoined}
-use Rattle.history.specs.Table.{rows, table}
+use Rattle.group_view.specs.Table.{rows, table}
 use Rattle.history.specs.Store.{Row, rowOf, stageOf, rowAt, rowsIn, rowsOf, staged, countsOf, stateOf}
-use Rattle.history.specs.Records.{keyAs, optionalAs, whatAs, momentAs, entryAs, rowAs, fits, Asks, pairIn, Removed, Pushed}
+use Rattle.group_view.specs.Keys.{keyAs}
+use Rattle.history.specs.Records.{optionalAs, whatAs, momentAs, entryAs, rowAs, fits, Asks, pairIn, Removed, Pushed}
 use Rattle.history.specs.Calls.{offerAs, Joins, JoinsSet, live, Roomy, Appended, rowMark, withLate}
 use Rattle.history.specs.declared.entry.Entry.{Entry}
 use Rattle.history.specs.declared.query.Query.{Query}
-use Rattle.history.specs.declared.key.Key.{Key}
+use Rattle.group_view.specs.declared.key.Key.{Key}
 use Rattle.history.specs.declared.order.Offer.{Offer}
 use Rattle.history.specs.declared.order.Joining.{Joining}
 use Rattle.history.specs.declared.order.Joining.the-variants as J
@@ -30,7 +31,7 @@ use Rattle.history.specs.declared.entry.Moment.{Moment}
 use Rattle.history.specs.declared.entry.What.the-variants.{End}
 use Rattle.history.specs.declared.entry.Optional.the-variants.{Present}
 use Rattle.group_order.proofs.Lists.{and-left, and-right, all-take, any-imp, keep-fewer, count-cons, count-nil, keep-keep, length-keep, mapO}
-use Rattle.history.proofs.Table.{all-rows}
+use Rattle.group_view.proofs.Table.{all-rows}
 use Rattle.history.proofs.Queries.{index-le, find-within, find-past, staged-any, staged-find, staged-keep, staged-other, staged-last, staged-more, staged-same}
 use Rattle.history.proofs.RowLaws.{row-in, length-rows}
 use Rattle.history.proofs.StoreLaws.{rows-set, head-word, head-groups, head-writers, head-counts, groups-set-before, writers-set-before, rows-in-set, counts-set}

@@ -11,7 +11,7 @@ use borrow.Author.Tests.{eqb-true, ne-eqb}
 use Rattle.group_order.specs.Lists.{any, count, keep}
 use Rattle.group_order.specs.Guid.{Guid, sameGuid}
 use Rattle.group_order.specs.Entry.{Entry, isSet, isSample, ofGroup, inSet, ofPair, isMember, isEndOf}
-use Rattle.history.specs.Table.{table}
+use Rattle.group_view.specs.Table.{table}
 use Rattle.history.specs.Store.{Row, rowOf, rowsIn, rowsOf, staged, stateOf}
 use Rattle.group_order.specs.State.{stored}
 use Rattle.history.specs.Records.{Asks, fits, pairIn}

@@ -9,7 +9,7 @@ use Rattle.group_order.specs.Release.{Outcome, release}
 use Rattle.group_order.specs.Run.{Call, Said, saidOffer, saidDone, saidRelease, step, run, answers, written, waiting}
 use Rattle.group_order.proofs.Demand3.{demand3}
 use Rattle.history.specs.Store.{stateOf}
-use Rattle.history.specs.View.{rowsAs}
+use Rattle.group_view.specs.View.{rowsAs}
 use Rattle.history.specs.Calls.{countOut, releaseTo}
 use Rattle.history.specs.Chain.{Done, didOffer, didHeartbeat, didGap, didRelease, Meets, Chain, ends, goes, callOf, counted, Agrees, AllAgree, none, more, CodeDemand3}
 

@@ -22,7 +22,7 @@ use Rattle.history.specs.Tied.{foundAt, gone, Left, Vacated, Written}
 use Rattle.history.specs.declared.query.Query.{Query}
 use Rattle.group_order.proofs.Lists.{keep-append, keep-last, keep-keep, keep-map, and-left, and-right, not-both, all-append, all-map, count-append, count-cons}
 use Rattle.history.proofs.Queries.{index-le, staged-at, staged-past, staged-keep, staged-other}
-use Rattle.history.proofs.Table.{table-same, length-part, stored-set, word-at}
+use Rattle.group_view.proofs.Table.{table-same, length-part, stored-set, word-at}
 use Rattle.history.proofs.RowLaws.{length-rows, row-in, rows-from, rows-more}
 
 abbrev blank : Row

@@ -6,7 +6,7 @@ use mathlib.Core.List.{List, [], _∷_, _++_}
 use native.Mathlib.Omega.{arith}
 use lib.ListN.{length, getD, set, take, drop}
 use lib.Seq.{paste, length-paste, getD-set-same, getD-set-other}
-use Rattle.history.proofs.Table.{length-part, length-table, stored-get, stored-put}
+use Rattle.group_view.proofs.Table.{length-part, length-table, stored-get, stored-put}
 use Rattle.history.proofs.Places.{Shifted, shifted-none, shifted-more, shifted-put}
 use Rattle.history.proofs.StoreLaws.{few-groups, group-at, group-word, groups-table, groups-set, groups-count, butGroups, but-groups-set, but-groups-put, state-groups}
 use Rattle.group_order.specs.Lists.{indexOf}
@@ -15,7 +15,7 @@ use Rattle.group_order.specs.State.{Group, newGroup}
 use Rattle.group_order.specs.Marks.{insertGroup, announcedTo}
 use Rattle.group_order.specs.Offer.{withMarks}
 use Rattle.history.specs.Store.{groupOf, groupsOf, stateOf}
-use Rattle.history.specs.Table.{table}
+use Rattle.group_view.specs.Table.{table}
 
 -- ---- the announced number is raised
 

@@ -1,9 +1,6 @@
-pub mod Table
-pub mod Keys
 pub mod Tags
 pub mod Queries
 pub mod RowLaws
-pub mod Views
 pub mod Bridge
 pub mod Asked
 pub mod Known

@@ -32,7 +32,8 @@ use Rattle.history.specs.declared.entry.Optional.the-variants.{Present}
 use Rattle.history.specs.declared.entry.Entry as R
 use Rattle.history.specs.Tied.{spot, Goes, GoesRows, Stalest, LowerStale, StaleGone, headAt}
 use Rattle.history.proofs.RowLaws.{same-eqZ, length-rows}
-use Rattle.history.proofs.Queries.{index-hit, index-miss, staged-any}
+use Rattle.group_view.proofs.Loops.{index-hit, index-miss}
+use Rattle.history.proofs.Queries.{staged-any}
 use Rattle.history.proofs.Places.{index-any, index-none}
 use Rattle.history.proofs.Asked.{staged-le}
 use Rattle.history.proofs.Spots.{goes-none, goes-then, goes-as}

@@ -7,9 +7,9 @@ use denote.Triple.Clauses.{AtExit}
 use borrow.Fn.Kinds.{Dens, resT, endedOf}
 use Rattle.group_order.specs.State.{fresh}
 use Rattle.history.specs.Store.{stateOf}
-use Rattle.history.specs.View.{NotedRows}
-use Rattle.history.specs.declared.view.Pair.{Pair}
-use Rattle.history.specs.declared.view.DigestRow.{DigestRow}
+use Rattle.group_view.specs.View.{NotedRows}
+use Rattle.group_view.specs.declared.view.Pair.{Pair}
+use Rattle.group_view.specs.declared.view.DigestRow.{DigestRow}
 use Rattle.history.proofs.Noting.{noted-release}
 use Rattle.history.specs.Chain.{Done, didOffer, didHeartbeat, didGap, didRelease, Meets}
 use Rattle.history.proofs.order.GroupOrder.new.Kinds as new-kinds

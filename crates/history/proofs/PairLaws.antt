@@ -1,49 +1,25 @@
--- Counted pairs: the rows of a view, one after the other; a pair's end and members in the rows of the store; sets whose pairs all pass.
-use Prim.Native.Nat.{ℕ, _+_, _*_, _<_, _≤_, min}
+-- Counted pairs: a pair's end and members in the rows of the store; sets whose pairs all pass.
+use Prim.Native.Nat.{ℕ, _<_, _≤_}
 use mathlib.Core.Path.{_≡_, refl, sym, ap, _∙_}
 use mathlib.Core.Bool.{Bool, true, false, _&&_, _||_, not, cond, Bool·not-not}
-use mathlib.Core.List.{List, [], _∷_}
+use mathlib.Core.List.{List}
 use mathlib.Core.Option.{some, none}
-use native.Mathlib.Omega.{arith}
-use native.Mathlib.Numerals.{add-one}
 use lib.IntN.{ℤ}
-use lib.ListN.{length, getD, take, drop}
-use lib.Seq.{drop-cons}
 use borrow.Author.Tests.{lt-ltb, le-ltb}
 use Rattle.group_order.specs.Lists.{all, any, count, find, indexOf, isSome}
 use Rattle.group_order.specs.Guid.{Guid, sameGuid}
 use Rattle.group_order.specs.Entry.{Entry, isEndOf}
 use Rattle.group_order.specs.Sets.{Pair, agrees, agreesE, agreesW, membersOfPair, endMissing, whole}
 use Rattle.history.specs.Store.{rowAt, rowsIn, staged}
-use Rattle.history.specs.View.{pairOf, pairsOf, pairFor, PairAt}
-use Rattle.history.specs.Records.{Asks, fits, keyAs, pairIn}
+use Rattle.group_view.specs.View.{pairFor}
+use Rattle.history.specs.Records.{Asks, fits, pairIn}
 use Rattle.history.specs.Tied.{foundAt}
 use Rattle.history.specs.declared.query.Query.{Query}
-use Rattle.history.specs.declared.view.Counted.{Counted}
 use Rattle.history.proofs.Asked.{count-asked}
 use Rattle.history.proofs.Gone.{found-asked}
 use Rattle.group_order.proofs.Lists.{all-imp, find-any}
 use Rattle.history.proofs.Queries.{all-none}
 use Rattle.history.proofs.RowLaws.{and-false}
-use Rattle.history.proofs.Table.{length-stored, stored-get}
-
--- ---- the view's rows
-
-pub pairs-few : (v : List ℕ) → length (pairsOf v) ≤ 256
-unfolding pairsOf
-pairs-few v = omega (arith, length-stored (λ r. pairOf r) 5 256 3 v (min (getD v 0 0) 256) (omega arith))
-
-pair-in : (i : ℕ) (v : List ℕ) → i < length (pairsOf v) → (z : Pair) → getD (pairsOf v) i z ≡ pairOf (take 5 (drop (3 + i * 5) v))
-unfolding pairsOf
-pair-in i v h z =
-    let m : ℕ = min (getD v 0 0) 256 in
-    stored-get (λ r. pairOf r) 5 256 3 v m i z (omega (arith, length-stored (λ r. pairOf r) 5 256 3 v m (omega arith))) (omega arith)
-
--- from row i on
-pub pairs-from : (i : ℕ) (v : List ℕ) (r : Counted) → PairAt i r v → i < length (pairsOf v)
-    → drop i (pairsOf v) ≡ pairFor (keyAs (r .group)) (keyAs (r .writer)) (r .reader) ∷ drop (i + 1) (pairsOf v)
-unfolding pairFor
-pairs-from i v r at h = let z : Pair = pairOf [] in rw (add-one i, drop-cons (pairsOf v) i z h, pair-in i v h z, at .group, at .writer, at .reader)
 
 -- a pair of another group passes; else its end is there and, where asked, agrees
 unfoldable pub passes : Bool → Guid → ℤ → List (Entry ℕ) → Pair → Bool

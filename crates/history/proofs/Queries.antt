@@ -1,4 +1,4 @@
--- Loops over a list under a test: what one element more decides, and a test of the rows of a stage as a test of the stage's entries.
+-- Lists under a test: the first that passes, a test of what a test keeps, and a test of the rows of a stage as a test of the stage's entries.
 use Prim.Native.Nat.{ℕ, suc, _+_, _<_, _≤_}
 use mathlib.Core.Path.{_≡_, refl, sym, ap, _∙_, fun-ext}
 use mathlib.Core.Bool.{Bool, true, false, _&&_, _||_, not, cond, Bool·beq}
@@ -12,44 +12,10 @@ use Rattle.group_order.specs.Lists.{keep, all, any, count, find, indexOf}
 use Rattle.group_order.specs.Guid.{sameGuid}
 use Rattle.group_order.specs.Entry.{Entry, isSet, isSample}
 use Rattle.history.specs.Store.{Row, staged}
-use Rattle.history.specs.Records.{keyAs, fits}
+use Rattle.group_view.specs.Keys.{keyAs}
+use Rattle.history.specs.Records.{fits}
 use Rattle.history.specs.declared.query.Query.{Query}
 use Rattle.group_order.proofs.Lists.{keep-append, keep-keep, keep-same, keep-under, keep-map, any-map, all-map, count-map, find-map, mapO}
-
--- ---- one element more
-
-module _ {A : Type 0} (p : A → Bool) (l m : List A) (x : A) (e : l ≡ x ∷ m) where
-  pub any-hit : p x ≡ true → any p l ≡ true
-  unfolding any
-  any-hit h = rw (e, h)
-
-  pub any-miss : p x ≡ false → any p l ≡ any p m
-  unfolding any
-  any-miss h = rw (e, h)
-
-  pub all-hit : p x ≡ false → all p l ≡ false
-  unfolding all
-  all-hit h = rw (e, h)
-
-  pub all-miss : p x ≡ true → all p l ≡ all p m
-  unfolding all
-  all-miss h = rw (e, h)
-
-  pub index-hit : p x ≡ true → indexOf p l ≡ 0
-  unfolding indexOf
-  index-hit h = rw (e, h)
-
-  pub index-miss : p x ≡ false → indexOf p l ≡ suc (indexOf p m)
-  unfolding indexOf
-  index-miss h = rw (e, h)
-
-  pub count-hit : p x ≡ true → count p l ≡ suc (count p m)
-  unfolding count keep
-  count-hit h = rw (e, h)
-
-  pub count-miss : p x ≡ false → count p l ≡ count p m
-  unfolding count keep
-  count-miss h = rw (e, h)
 
 -- ---- the first that passes
 

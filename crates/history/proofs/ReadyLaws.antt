@@ -1,5 +1,5 @@
 -- When a number is ready: what a writer's marks say, walks over numbers and lists exchanged, and the loops over rows.
-use Prim.Native.Nat.{ℕ, zero, suc, _+_, _-_, _<_, _≤_}
+use Prim.Native.Nat.{ℕ, zero, suc, _+_, _-_, _<_, _≤_, min}
 use mathlib.Core.Path.{_≡_, refl, sym, ap, _∙_}
 use mathlib.Core.Bool.{Bool, true, false, _&&_, _||_, not}
 use mathlib.Core.List.{List, [], _∷_}
@@ -18,18 +18,19 @@ use Rattle.group_order.specs.Marks.{pastMarks, past, pastOf}
 use Rattle.group_order.specs.Commit.{DigestRow, allFrom, lowestOpen}
 use Rattle.group_order.specs.Sets.{Pair}
 use Rattle.history.specs.Store.{Row, staged, writersOf}
-use Rattle.history.specs.View.{pairOf, pairsOf, pairsFor, PairAt}
+use Rattle.group_view.specs.View.{pairOf, pairsOf, pairsFor, PairAt}
 use Rattle.history.specs.Ready.{pairFrom, rowPast, writerFine, digestsFine, headFor, rowCopied, arrivedFor, rowArrived, arrived}
-use Rattle.history.specs.Records.{keyAs, MarksOf, Asks, fits}
+use Rattle.group_view.specs.Keys.{keyAs}
+use Rattle.history.specs.Records.{MarksOf, Asks, fits}
 use Rattle.group_order.specs.declared.number.Marks.{Marks}
-use Rattle.history.specs.declared.view.Counted.{Counted}
+use Rattle.group_view.specs.declared.view.Counted.{Counted}
 use Rattle.history.specs.declared.query.Query.{Query}
 use Rattle.group_order.proofs.Lists.{and-left, and-right}
 use Rattle.group_order.proofs.Open.{all-walk}
 use Rattle.history.proofs.Places.{find-at, find-none}
 use Rattle.history.proofs.Asked.{any-same}
 use Rattle.history.proofs.Queries.{any-keep, all-keep-or, staged-any, staged-all}
-use Rattle.history.proofs.Views.{pairs-from}
+use Rattle.group_view.proofs.Views.{pairs-from, pair-there}
 
 -- ---- walks over numbers
 
@@ -140,12 +141,12 @@ pub pair-from : (v : List ℕ) (i : ℕ) → i < length (pairsOf v) → drop i (
 unfolding pairFrom
 pair-from v i h = pairs-from v i h
 
-pub pair-read : (v : List ℕ) (i : ℕ) (r : Counted) → PairAt i r v → pairFrom i v ≡ record { group = keyAs (r .group); writer = keyAs (r .writer); reader = r .reader }
+pub pair-read : (v : List ℕ) (i : ℕ) (r : Counted) → PairAt (min i 255) r v → i < length (pairsOf v) → pairFrom i v ≡ record { group = keyAs (r .group); writer = keyAs (r .writer); reader = r .reader }
 unfolding pairFrom pairOf
-pair-read v i r h = rw (h .group, h .writer, h .reader)
+pair-read v i r at h = let there : PairAt i r v = pair-there v i r h at in rw (there .group, there .writer, there .reader)
 
-pub reader-small : (v : List ℕ) (i : ℕ) (r : Counted) → PairAt i r v → i < length (pairsOf v) → all (λ p. ltb (p .reader) 8) (pairsOf v) ≡ true → r .reader < 8
-reader-small v i r a h e = ltb-true _ 8 (ap (λ p. ltb (p .reader) 8) (sym (pair-read v i r a)) ∙ all-first (λ p. ltb (p .reader) 8) _ _ (pairFrom i v) (pair-from v i h) (all-drop (λ p. ltb (p .reader) 8) i (pairsOf v) e))
+pub reader-small : (v : List ℕ) (i : ℕ) (r : Counted) → PairAt (min i 255) r v → i < length (pairsOf v) → all (λ p. ltb (p .reader) 8) (pairsOf v) ≡ true → r .reader < 8
+reader-small v i r a h e = ltb-true _ 8 (ap (λ p. ltb (p .reader) 8) (sym (pair-read v i r a h)) ∙ all-first (λ p. ltb (p .reader) 8) _ _ (pairFrom i v) (pair-from v i h) (all-drop (λ p. ltb (p .reader) 8) i (pairsOf v) e))
 
 pub writers-from : (l : List ℕ) (i : ℕ) → i < length (writersOf l) → drop i (writersOf l) ≡ getD (writersOf l) i (newWriter [] []) ∷ drop (i + 1) (writersOf l)
 writers-from l i h = rw (add-one i) (drop-cons (writersOf l) i (newWriter [] []) h)

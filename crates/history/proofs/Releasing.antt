@@ -17,7 +17,7 @@ use Rattle.group_order.specs.Run.{placeOf}
 use Rattle.group_order.proofs.Turns.{stopped}
 use Rattle.group_order.proofs.Fuel.{more}
 use Rattle.history.specs.Store.{staged, rowsIn, groupsOf, writersOf, countsOf}
-use Rattle.history.specs.View.{viewOf}
+use Rattle.group_view.specs.View.{viewOf}
 use Rattle.history.specs.Tied.{Spot, at, groupAt, Carries, Tied, needs, wants, Fit, GoesBy, Goes, turnAt, turns, roundTo, Rounds, ReleasedTo}
 use Rattle.history.proofs.Asked.{staged-le}
 use Rattle.history.proofs.RowLaws.{length-rows}

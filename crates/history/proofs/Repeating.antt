@@ -19,7 +19,7 @@ use Rattle.group_order.specs.Sets.{lowestEnded}
 use Rattle.group_order.specs.Commit.{Turn, allFrom, pairPast, digestsAccepted, ruledOut, copiesArrived, isHead, headOf, lowestNumber, next, ready}
 use Rattle.group_order.specs.Release.{Work, turnOf, skip, committedAt, commit, commitIf, headStep, endStep, round, orStop, waited, young}
 use Rattle.history.specs.Store.{Row, groupOf, rowOf, rowAt, rowsIn, staged, groupsOf, writersOf, countsOf}
-use Rattle.history.specs.View.{digestsOf, pairsFor, viewOf}
+use Rattle.group_view.specs.View.{digestsOf, pairsFor, viewOf}
 use Rattle.history.specs.Records.{Asks, Removed}
 use Rattle.history.specs.Ready.{digestsFine, headFor, arrivedFor, arrived}
 use Rattle.history.specs.Calls.{live}
@@ -27,7 +27,7 @@ use Rattle.history.specs.Tied.{Spot, spot, groupAt, Carries, Tied, Fit, 
 use Rattle.history.specs.declared.query.Query.{Query}
 use Rattle.group_order.proofs.Lists.{and-right, not-both, find-any, find-test}
 use Rattle.group_order.proofs.Minima.{lowestNumber-attained}
-use Rattle.history.proofs.Table.{length-part}
+use Rattle.group_view.proofs.Table.{length-part}
 use Rattle.history.proofs.Queries.{index-le, any-keep, staged-at, staged-past}
 use Rattle.history.proofs.RowLaws.{length-rows, row-in}
 use Rattle.history.proofs.Spots.{goes-none, goes-then, goes-as}

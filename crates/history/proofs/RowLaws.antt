@@ -17,13 +17,14 @@ use borrow.Author.Tests.{eqb-true, eqb-false, eq-eqb, not-true, not-false}
 use Rattle.coherent_set.specs.Answer.{eqZ}
 use Rattle.coherent_set.proofs.Whole.{other-eqZ}
 use Rattle.group_order.specs.Lists.{keep, find, indexOf}
-use Rattle.history.specs.Table.{table}
-use Rattle.history.specs.Store.{Row, guidOf, rowOf, rowAt, rowsIn, staged}
+use Rattle.group_view.specs.Table.{table}
+use Rattle.history.specs.Store.{Row, rowOf, rowAt, rowsIn, staged}
+use Rattle.group_view.specs.Keys.{guidOf}
 use Rattle.history.specs.Records.{fits, Copied, Removed, Pushed}
 use Rattle.history.specs.declared.query.Query.{Query}
 use Rattle.group_order.proofs.Lists.{keep-append}
 use Rattle.history.proofs.Queries.{asks, asked-at, asked-past}
-use Rattle.history.proofs.Table.{word-at, length-part, paste-keeps, length-table, table-get, table-put, length-stored, stored-get, stored-push}
+use Rattle.group_view.proofs.Table.{word-at, length-part, paste-keeps, length-table, table-get, table-put, length-stored, stored-get, stored-push}
 
 -- ---- a row's parts
 

@@ -21,7 +21,7 @@ use Rattle.group_order.specs.Run.{placeOf}
 use Rattle.group_order.proofs.Lists.{and-right, all-kept, all-imp, count-split}
 use Rattle.history.specs.Store.{rowsIn, staged, groupsOf, writersOf, countsOf}
 use Rattle.history.specs.Records.{fits, Asks}
-use Rattle.history.specs.View.{viewOf, pairsFor}
+use Rattle.group_view.specs.View.{viewOf, pairsFor}
 use Rattle.history.specs.Tied.{Spot, spot, at, groupAt, Counted, Vacated, Written, Tied, Fit, Goes, GoesRows, needs, wants, turnAt, roundTo, Rounds}
 use Rattle.history.specs.declared.query.Query.{Query}
 use Rattle.history.proofs.Queries.{count-keep-and}

@@ -7,12 +7,14 @@ use native.Mathlib.Omega.{arith}
 use native.Mathlib.Nat.{add-zero, add-assoc}
 use lib.ListN.{length, getD, set, take, drop}
 use lib.Seq.{paste, getD-set-same, getD-set-other, take-set-le}
-use Rattle.history.proofs.Table.{word-at, paste-keeps, table-same, table-set-before, table-set-after, length-stored, stored-get, stored-set}
+use Rattle.group_view.proofs.Table.{word-at, paste-keeps, table-same, table-set-before, table-set-after, length-stored, stored-get, stored-set}
 use Rattle.history.proofs.Places.{front-part, front-get}
 use Rattle.group_order.specs.State.{State, Group, Writer}
 use Rattle.group_order.specs.Offer.{withMarks}
-use Rattle.history.specs.Store.{guidOf, digestOf, groupOf, writerOf, rowOf, groupsOf, writersOf, rowsIn, rowsOf, countsOf, staged, stateOf}
-use Rattle.history.specs.Table.{table}
+use Rattle.group_view.specs.Keys.{guidOf}
+use Rattle.group_view.specs.View.{digestOf}
+use Rattle.history.specs.Store.{groupOf, writerOf, rowOf, groupsOf, writersOf, rowsIn, rowsOf, countsOf, staged, stateOf}
+use Rattle.group_view.specs.Table.{table}
 
 -- ---- how many there are, and the one at a place
 

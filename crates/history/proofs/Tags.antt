@@ -8,8 +8,9 @@ use native.Mathlib.Omega.{arith}
 use lib.Dec.{eqb, lit<}
 use lib.ListN.{getD, take, drop}
 use Rattle.group_order.specs.Entry.{sample, setEnd}
-use Rattle.history.specs.Store.{guidOf, optional, tag, stageOf, Row, rowOf}
-use Rattle.history.proofs.Table.{word-at}
+use Rattle.group_view.specs.Keys.{guidOf}
+use Rattle.history.specs.Store.{optional, tag, stageOf, Row, rowOf}
+use Rattle.group_view.proofs.Table.{word-at}
 
 -- a row of these tags (the stage; an end, set, first and own present, ended) and words
 abbrev pub made : (g e s f o m gh gl wh wl r n sw fw ow t mw : ℕ) → Row

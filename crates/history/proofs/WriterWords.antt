@@ -9,7 +9,7 @@ use native.Mathlib.Nat.{add-assoc}
 use lib.ListN.{length, getD, set, take, drop, length-set, length-append}
 use lib.Seq.{paste, length-paste, getD-set-other, set-getD, set-set}
 use borrow.Author.Tests.{ne-eqb}
-use Rattle.history.proofs.Table.{word-at, length-part, part-set, part-set-before, part-set-after, stored-push}
+use Rattle.group_view.proofs.Table.{word-at, length-part, part-set, part-set-before, part-set-after, stored-push}
 use Rattle.group_order.proofs.Lists.{and-true}
 use Rattle.group_order.proofs.Guids.{same-refl}
 use Rattle.history.proofs.Places.{spelled, index-last}
@@ -20,7 +20,8 @@ use Rattle.group_order.specs.State.{Writer, newWriter, isWriter}
 use Rattle.group_order.specs.Marks.{raise, orKeep, saw, gapped, announced}
 use Rattle.group_order.specs.Offer.{withMarks}
 use Rattle.history.specs.Records.{Told, MarksOf}
-use Rattle.history.specs.Store.{digestOf, writerOf, writersOf, stateOf}
+use Rattle.group_view.specs.View.{digestOf}
+use Rattle.history.specs.Store.{writerOf, writersOf, stateOf}
 
 -- words were written in the row of writer i, which is r now
 pub record Written (i : ℕ) (l m r : List ℕ) : Type 0 where

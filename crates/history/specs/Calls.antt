@@ -19,7 +19,7 @@ use Rattle.group_order.specs.Release.{View, Outcome, release}
 use Rattle.group_order.specs.Run.{saidRelease, written}
 use Rattle.history.specs.Store.{Row, rowsIn, staged, stateOf}
 use Rattle.history.specs.Records.{optionalAs, whatAs}
-use Rattle.history.specs.View.{more, viewOf}
+use Rattle.group_view.specs.View.{more, viewOf}
 use Rattle.history.specs.declared.release.Released.{Released}
 use Rattle.history.specs.declared.release.Released.the-variants as R
 use Rattle.history.specs.declared.order.Offer.{Offer}

@@ -9,7 +9,7 @@ use Rattle.group_order.specs.Offer as O
 use Rattle.group_order.specs.Run.{Call, offers, heartbeats, gaps, releases, Said, isRefused, isOffered, isDone, isReleased, saidOffer, saidDone, run, answers, written, waiting}
 use Rattle.group_order.specs.Claim.{Demand3, final}
 use Rattle.history.specs.Store.{stateOf}
-use Rattle.history.specs.View.{rowsAs}
+use Rattle.group_view.specs.View.{rowsAs}
 use Rattle.history.specs.Calls.{offerAs, heartbeatAs, gapAs, offeredAs, toldAs, releasedAs, releaseTo, Kept}
 use Rattle.history.specs.declared.order.Offer.{Offer}
 use Rattle.history.specs.declared.order.Offered.{Offered}
@@ -17,8 +17,8 @@ use Rattle.history.specs.declared.order.Heartbeat.{Heartbeat}
 use Rattle.history.specs.declared.order.Gap.{Gap}
 use Rattle.history.specs.declared.order.Accepted.{Accepted}
 use Rattle.history.specs.declared.release.Released.{Released}
-use Rattle.history.specs.declared.view.Pair.{Pair}
-use Rattle.history.specs.declared.view.DigestRow.{DigestRow}
+use Rattle.group_view.specs.declared.view.Pair.{Pair}
+use Rattle.group_view.specs.declared.view.DigestRow.{DigestRow}
 
 -- a call and its answer; a release with its rows, time and lent list, and the list as it left it
 pub data Done : Type 0 where

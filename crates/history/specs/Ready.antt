@@ -12,7 +12,7 @@ use Rattle.group_order.specs.Marks.{pastOf}
 use Rattle.group_order.specs.Sets.{Pair}
 use Rattle.group_order.specs.Commit.{DigestRow, accepted, secureAccepted, allFrom}
 use Rattle.history.specs.Store.{Row}
-use Rattle.history.specs.View.{pairOf}
+use Rattle.group_view.specs.View.{pairOf}
 
 unfoldable pub digestsFine : Guid → List DigestRow → List Writer → Bool
 digestsFine g ds ws = all (λ w. not (sameGuid g (w .group)) || (accepted g ds (w .digest) && secureAccepted (w .secure))) ws

@@ -11,12 +11,13 @@ use mathlib.Core.Bool.{Bool·beq}
 use Rattle.group_order.specs.Guid.{Guid, sameGuid}
 use Rattle.group_order.specs.Entry as E
 use Rattle.group_order.specs.Lists.{keep}
-use Rattle.history.specs.Table.{table}
-use Rattle.history.specs.Store.{Row, guidOf, rowOf, rowAt, rowsIn, writersOf, stateOf}
+use Rattle.group_view.specs.Table.{table}
+use Rattle.history.specs.Store.{Row, rowOf, rowAt, rowsIn, writersOf, stateOf}
+use Rattle.group_view.specs.Keys.{keyAs}
 use Rattle.group_order.specs.State.{Writer, newWriter}
 use Rattle.group_order.specs.Offer.{withMarks}
 use Rattle.group_order.specs.declared.number.Marks.{Marks}
-use Rattle.history.specs.declared.key.Key.{Key}
+use Rattle.group_view.specs.declared.key.Key.{Key}
 use Rattle.history.specs.declared.entry.Optional.{Optional}
 use Rattle.history.specs.declared.entry.Optional.the-variants.{Absent, Present}
 use Rattle.history.specs.declared.entry.SetEnd.{SetEnd}
@@ -28,9 +29,6 @@ use Rattle.history.specs.declared.entry.Entry.{Entry}
 use Rattle.history.specs.declared.query.Query.{Query}
 
 -- ---- records
-
-unfoldable pub keyAs : Key → Guid
-keyAs k = guidOf (k .hi) (k .lo)
 
 unfoldable pub optionalAs : Optional → Option ℤ
 optionalAs Absent = none

@@ -1,28 +1,20 @@
 -- What the words of a store mean. Every content means something: lengths stop at the tables' sizes, readers, items and numbers are taken
 -- modulo their ranges. Words past a length mean nothing.
-use Prim.Native.Nat.{ℕ, suc, _+_, _-_, _*_, _/_, _%_, _^_, min}
+use Prim.Native.Nat.{ℕ, suc, _+_, _*_, _/_, _%_, _^_, min}
 use mathlib.Core.Bool.{Bool, true, false, not, cond}
-use mathlib.Core.List.{List, _++_, map}
+use mathlib.Core.List.{List, map}
 use mathlib.Core.Option.{Option, some, none}
 use lib.IntN.{ℤ}
 use lib.Dec.{eqb}
 use lib.ListN.{take, drop, getD}
 use mir.Syntax.{w64}
 use mir.Val.{toZ}
-use Rattle.coherent_set.specs.Marker.{bytesOf}
 use Rattle.group_order.specs.Lists.{keep}
-use Rattle.group_order.specs.Guid.{Guid}
 use Rattle.group_order.specs.Entry.{What, sample, setEnd, Entry}
 use Rattle.group_order.specs.State.{State, Group, Writer, Counts}
-use Rattle.history.specs.Table.{table}
-
--- a GUID is two words, big-endian
-unfoldable pub guidOf : ℕ → ℕ → Guid
-guidOf h l = bytesOf 8 h ++ bytesOf 8 l
-
--- an optional digest: 0, or one more than the digest
-abbrev pub digestOf : ℕ → Option ℕ
-digestOf w = cond (eqb w 0) none (some ((w - 1) % 2 ^ 32))
+use Rattle.group_view.specs.Table.{table}
+use Rattle.group_view.specs.Keys.{guidOf}
+use Rattle.group_view.specs.View.{digestOf}
 
 -- group: GUID, committed, announced
 unfoldable pub groupOf : List ℕ → Group

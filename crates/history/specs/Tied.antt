@@ -18,7 +18,7 @@ use Rattle.group_order.specs.Run.{placeOf}
 use Rattle.history.specs.Records.{fits}
 use Rattle.history.specs.declared.query.Query.{Query}
 use Rattle.history.specs.Store.{Row, rowAt, rowsIn, staged, groupsOf, writersOf, countsOf}
-use Rattle.history.specs.View.{viewOf}
+use Rattle.group_view.specs.View.{viewOf}
 use Rattle.history.specs.Ready.{headFor}
 
 -- the entry at row i of the first n, if there is one

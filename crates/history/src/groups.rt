@@ -1,7 +1,4 @@
 // The known groups, in the order of their GUIDs.
-use crate::key::Key;
-use crate::key::comes_before;
-use crate::key::same;
 use crate::rows::key_at;
 use crate::words::get_words;
 use crate::words::put_word;
@@ -9,6 +6,9 @@ use crate::words::put_words;
 use crate::words::raise_word;
 use crate::words::whole;
 use crate::words::word;
+use group_view::key::Key;
+use group_view::key::comes_before;
+use group_view::key::same;
 ghost use mathlib.Core.Path.{_≡_};
 ghost use mathlib.Core.Bool.{false};
 ghost use Prim.Native.Nat.{_+_, _*_, _<_, _≤_};
@@ -20,7 +20,7 @@ ghost use Rattle.group_order.specs.State.{isGroup, committedOf, newGroup};
 ghost use Rattle.group_order.specs.Marks.{insertGroup, hearGroup, announcedTo};
 ghost use Rattle.group_order.specs.Offer.{ninth, withMarks};
 ghost use Rattle.history.specs.Store.{groupsOf, stateOf};
-ghost use Rattle.history.specs.Records.{keyAs};
+ghost use Rattle.group_view.specs.Keys.{keyAs};
 
 pub(crate) fn group_count(store: &[u64; 6984]) -> usize
     ensures { λ r. ⌜ r ≡ length (groupsOf (now (store .entry))) ⌝ }

@@ -1,10 +1,10 @@
 // Rows that leave the history while a release runs, and what they leave in the lent list.
-use crate::key::Key;
 use crate::query::Query;
 use crate::rows::fits_at;
 use crate::words::put_word;
 use crate::words::whole;
 use crate::words::word;
+use group_view::key::Key;
 ghost use mathlib.Core.Path.{_≡_};
 ghost use mathlib.Core.Bool.{_&&_, true};
 ghost use Prim.Native.Nat.{_+_, _<_, _≤_};
@@ -15,7 +15,8 @@ ghost use Rattle.group_order.specs.Entry.{isSample, inSet, marks};
 ghost use Rattle.group_order.specs.Release.{waited};
 ghost use Rattle.group_order.specs.Run.{placeOf};
 ghost use Rattle.history.specs.Store.{rowAt, rowsIn};
-ghost use Rattle.history.specs.Records.{keyAs, fits};
+ghost use Rattle.group_view.specs.Keys.{keyAs};
+ghost use Rattle.history.specs.Records.{fits};
 ghost use Rattle.history.specs.Tied.{foundAt, Left, Vacated, Written};
 
 // Row i is gone.

@@ -2,7 +2,6 @@
 mod coding;
 pub mod entry;
 mod groups;
-mod key;
 mod leaving;
 pub mod order;
 mod query;
@@ -11,6 +10,5 @@ pub mod release;
 mod rows;
 mod sets;
 mod steps;
-pub mod view;
 mod words;
 mod writers;

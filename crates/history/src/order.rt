@@ -10,8 +10,6 @@ use crate::groups::committed_of;
 use crate::groups::find_group;
 use crate::groups::group_count;
 use crate::groups::hear_group;
-use crate::key::Key;
-use crate::key::pack;
 use crate::query::Query;
 use crate::rows::any_row;
 use crate::rows::count_rows;
@@ -28,6 +26,8 @@ use crate::writers::note_heartbeat;
 use crate::writers::note_seen;
 use crate::writers::writer_count;
 use group_order::number::clamp;
+use group_view::key::Key;
+use group_view::key::pack;
 ghost use mathlib.Core.Path.{_≡_};
 ghost use mathlib.Core.Bool.{true, false, _||_};
 ghost use Prim.Native.Nat.{_<_, _≤_, _^_, min};
@@ -39,7 +39,8 @@ ghost use Rattle.group_order.specs.Offer.{offer, heartbeat, gap, ninth, pair33,
 ghost use Rattle.group_order.specs.Run.{waiting, nothingWaits};
 ghost use Rattle.group_order.specs.Marks.{saw};
 ghost use Rattle.history.specs.Store.{stateOf, writersOf, rowsIn};
-ghost use Rattle.history.specs.Records.{keyAs, optionalAs, momentAs, entryAs, rowAs, fits};
+ghost use Rattle.group_view.specs.Keys.{keyAs};
+ghost use Rattle.history.specs.Records.{optionalAs, momentAs, entryAs, rowAs, fits};
 ghost use Rattle.history.specs.Calls.{offerAs, heartbeatAs, gapAs, offeredAs, toldAs, countsAs, Kept, digestWord, Joins, JoinsSet, rowMark, Heard, live, Roomy, Appended, withLate};
 
 // The store: a header and three tables of words (specs/Store.antt).

@@ -1,10 +1,11 @@
 // Which rows of the store a rule asks for.
-use crate::key::Key;
+use group_view::key::Key;
 ghost use mathlib.Core.Path.{_≡_};
 ghost use mathlib.Core.Bool.{_&&_, true};
 ghost use lib.Dec.{eqb};
 ghost use Rattle.group_order.specs.Entry.{isSample, ofGroup, inSet, isMember, isEndOf, ofPair};
-ghost use Rattle.history.specs.Records.{keyAs, Asks, pairIn, base};
+ghost use Rattle.group_view.specs.Keys.{keyAs};
+ghost use Rattle.history.specs.Records.{Asks, pairIn, base};
 
 // Each part is asked for only where its flag says so.
 pub struct Query {

@@ -1,19 +1,19 @@
 // When the lowest pending number of a group is ready: passable and copies_arrived of the source.
-use crate::key::Key;
-use crate::key::same;
 use crate::query::Query;
 use crate::rows::any_row;
 use crate::rows::fits_at;
 use crate::rows::key_at;
-use crate::view::is_accepted;
-use crate::view::pair_at;
-use crate::view::pair_count;
 use crate::words::word;
 use crate::writers::find_writer;
 use crate::writers::marks_at;
 use crate::writers::writer_count;
 use group_order::number::Marks;
 use group_order::number::lowest_open;
+use group_view::key::Key;
+use group_view::key::same;
+use group_view::view::is_accepted;
+use group_view::view::pair_at;
+use group_view::view::pair_count;
 ghost use mathlib.Core.Path.{_≡_};
 ghost use mathlib.Core.Bool.{true};
 ghost use Prim.Native.Nat.{ℕ, _-_, _<_, _≤_, _^_};
@@ -24,9 +24,9 @@ ghost use Rattle.group_order.specs.Lists.{all};
 ghost use Rattle.group_order.specs.State.{writerOf, newWriter};
 ghost use Rattle.group_order.specs.Marks.{pastOf, pastMarks};
 ghost use Rattle.group_order.specs.Commit.{allFrom, secureAccepted, ruledOut, ready};
-ghost use Rattle.history.specs.Store.{digestOf, rowAt, rowsIn, staged, writersOf, groupsOf};
-ghost use Rattle.history.specs.View.{pairsFor, pairsOf, digestsOf};
-ghost use Rattle.history.specs.Records.{keyAs};
+ghost use Rattle.group_view.specs.View.{digestOf, pairsFor, pairsOf, digestsOf};
+ghost use Rattle.history.specs.Store.{rowAt, rowsIn, staged, writersOf, groupsOf};
+ghost use Rattle.group_view.specs.Keys.{keyAs};
 ghost use Rattle.history.specs.Ready.{pairFrom, rowPast, writerFine, digestsFine, headFor, rowCopied, arrivedFor, rowArrived, arrived};
 ghost use Rattle.history.specs.Tied.{groupAt, turnAt};
 

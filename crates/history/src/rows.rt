@@ -1,12 +1,12 @@
 // Rows of entries in the store: one row, and the loops over the rows that a query asks for.
-use crate::key::Key;
-use crate::key::same;
 use crate::query::Query;
 use crate::words::get_words;
 use crate::words::put_words;
 use crate::words::whole;
 use crate::words::word;
 use coherent_set::bits_of;
+use group_view::key::Key;
+use group_view::key::same;
 ghost use mathlib.Core.Path.{_≡_};
 ghost use mathlib.Core.Bool.{_||_, not, Bool·beq};
 ghost use Prim.Native.Nat.{_+_, _<_, _≤_};
@@ -15,8 +15,9 @@ ghost use lib.ListN.{take, drop, getD};
 ghost use Rattle.group_order.specs.Lists.{any, count, indexOf};
 ghost use Rattle.group_order.specs.Guid.{sameGuid};
 ghost use Rattle.group_order.specs.Entry.{isSet, isSample};
-ghost use Rattle.history.specs.Store.{guidOf, rowOf, rowAt, rowsIn};
-ghost use Rattle.history.specs.Records.{keyAs, fits, Copied, Removed, Pushed};
+ghost use Rattle.group_view.specs.Keys.{guidOf, keyAs};
+ghost use Rattle.history.specs.Store.{rowOf, rowAt, rowsIn};
+ghost use Rattle.history.specs.Records.{fits, Copied, Removed, Pushed};
 
 pub(crate) fn key_at(store: &[u64; 6984], p: usize) -> Key
     requires { ⌜ p + 2 ≤ 6984 ⌝ }

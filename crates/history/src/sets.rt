@@ -3,17 +3,17 @@ use crate::coding::read_entry;
 use crate::entry::Optional;
 use crate::entry::SetEnd;
 use crate::entry::What;
-use crate::key::Key;
-use crate::key::same;
 use crate::leaving::is_young;
 use crate::query::Query;
 use crate::rows::any_row;
 use crate::rows::count_rows;
 use crate::rows::find_row;
-use crate::view::Counted;
-use crate::view::pair_at;
-use crate::view::pair_count;
 use group_order::number::is_distance;
+use group_view::key::Key;
+use group_view::key::same;
+use group_view::view::Counted;
+use group_view::view::pair_at;
+use group_view::view::pair_count;
 ghost use mathlib.Core.Path.{_≡_};
 ghost use mathlib.Core.Bool.{_&&_, _||_, not, cond};
 ghost use Prim.Native.Nat.{ℕ, _≤_};
@@ -25,8 +25,9 @@ ghost use Rattle.group_order.specs.Entry.{isMember, isEndOf, setEnd};
 ghost use Rattle.group_order.specs.Sets.{endMissing, agrees, agreesW, whole};
 ghost use Rattle.group_order.specs.Release.{waited};
 ghost use Rattle.history.specs.Store.{rowsIn, staged};
-ghost use Rattle.history.specs.View.{pairsFor, pairFor};
-ghost use Rattle.history.specs.Records.{keyAs, optionalAs, whatAs};
+ghost use Rattle.group_view.specs.View.{pairsFor, pairFor};
+ghost use Rattle.group_view.specs.Keys.{keyAs};
+ghost use Rattle.history.specs.Records.{optionalAs, whatAs};
 
 // A counted pair's end is missing.
 pub(crate) fn end_missing(

@@ -1,6 +1,4 @@
 // The known pairs of group and writer, and what each was told.
-use crate::key::Key;
-use crate::key::same;
 use crate::rows::key_at;
 use crate::words::put_word;
 use crate::words::put_words;
@@ -8,6 +6,8 @@ use crate::words::raise_word;
 use crate::words::whole;
 use crate::words::word;
 use group_order::number::Marks;
+use group_view::key::Key;
+use group_view::key::same;
 ghost use mathlib.Core.Path.{_≡_};
 ghost use mathlib.Core.Bool.{false};
 ghost use mathlib.Core.List.{_++_, _∷_, []};
@@ -17,8 +17,10 @@ ghost use Rattle.group_order.specs.Lists.{indexOf};
 ghost use Rattle.group_order.specs.State.{isWriter, newWriter};
 ghost use Rattle.group_order.specs.Marks.{hearWriter, saw, gapped, orKeep, announced};
 ghost use Rattle.group_order.specs.Offer.{pair33, withMarks};
-ghost use Rattle.history.specs.Store.{writersOf, stateOf, digestOf};
-ghost use Rattle.history.specs.Records.{keyAs, Told, MarksOf};
+ghost use Rattle.history.specs.Store.{writersOf, stateOf};
+ghost use Rattle.group_view.specs.View.{digestOf};
+ghost use Rattle.group_view.specs.Keys.{keyAs};
+ghost use Rattle.history.specs.Records.{Told, MarksOf};
 
 pub(crate) fn writer_count(store: &[u64; 6984]) -> usize
     ensures { λ r. ⌜ r ≡ length (writersOf (now (store .entry))) ⌝ }

@@ -4,7 +4,8 @@ use mathlib.Core.Path.{_≡_, _∙_}
 use native.Mathlib.Omega.{arith}
 use mir.Syntax.{w8}
 use mir.Val.{Fits}
-use Rattle.history.specs.Records.{keyAs, entryAs, rowAs}
+use Rattle.group_view.specs.Keys.{keyAs}
+use Rattle.history.specs.Records.{entryAs, rowAs}
 use Rattle.history.proofs.Tags.{row-back}
 use borrow.Author.Needs.{needs}
 use Rattle.history.proofs.coding.encode.Statement.{statement}

@@ -7,7 +7,7 @@ use borrow.Author.Needs.{needs}
 use Rattle.history.proofs.GroupWords.{Opened, opened-none, opened-more, opened-put, insert-at}
 use Rattle.history.proofs.Places.{index-le}
 use Rattle.group_order.specs.Guid.{before}
-use Rattle.history.specs.Records.{keyAs}
+use Rattle.group_view.specs.Keys.{keyAs}
 use Rattle.group_order.specs.State.{newGroup}
 use Rattle.history.specs.Store.{groupsOf, groupOf}
 use Rattle.history.proofs.groups.add_group.Statement.{statement}

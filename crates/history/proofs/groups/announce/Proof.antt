@@ -7,7 +7,7 @@ use Rattle.history.proofs.GroupWords.{raise-announced}
 use Rattle.history.proofs.Places.{change-at, change-none}
 use Rattle.history.proofs.StoreLaws.{state-groups}
 use Rattle.group_order.specs.Marks.{announcedTo}
-use Rattle.history.specs.Records.{keyAs}
+use Rattle.group_view.specs.Keys.{keyAs}
 use Rattle.group_order.specs.State.{isGroup, newGroup}
 use Rattle.history.specs.Store.{groupsOf}
 use Rattle.history.proofs.groups.announce.Statement.{statement}

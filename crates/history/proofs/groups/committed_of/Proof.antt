@@ -4,7 +4,7 @@ use native.Mathlib.Omega.{arith}
 use borrow.Author.Needs.{needs}
 use Rattle.history.proofs.Places.{find-at, find-none}
 use Rattle.history.proofs.StoreLaws.{group-committed}
-use Rattle.history.specs.Records.{keyAs}
+use Rattle.group_view.specs.Keys.{keyAs}
 use Rattle.group_order.specs.State.{isGroup, committedOf, committedIn, newGroup}
 use Rattle.history.specs.Store.{groupsOf}
 use Rattle.history.proofs.groups.committed_of.Statement.{statement}

@@ -8,7 +8,7 @@ use Rattle.history.proofs.Places.{index-any, index-none}
 use Rattle.history.proofs.StoreLaws.{state-groups}
 use Rattle.group_order.specs.Marks.{hearGroup}
 use Rattle.group_order.specs.Offer.{ninth}
-use Rattle.history.specs.Records.{keyAs}
+use Rattle.group_view.specs.Keys.{keyAs}
 use Rattle.group_order.specs.State.{isGroup, knowsGroup}
 use Rattle.history.specs.Store.{groupsOf, stateOf}
 use Rattle.history.proofs.groups.hear_group.Statement.{statement}

@@ -7,7 +7,7 @@ use lib.ListN.{length}
 use borrow.Author.Needs.{needs}
 use Rattle.history.proofs.Places.{Missed, missed-none, missed-more, missed-hit, missed-all}
 use Rattle.group_order.specs.Guid.{before}
-use Rattle.history.specs.Records.{keyAs}
+use Rattle.group_view.specs.Keys.{keyAs}
 use Rattle.group_order.specs.State.{newGroup}
 use Rattle.history.specs.Store.{groupsOf}
 use Rattle.history.proofs.groups.place_for.Statement.{statement}

@@ -9,7 +9,7 @@ use Rattle.group_order.specs.Entry.{marks}
 use Rattle.history.specs.Store.{rowsIn}
 use Rattle.history.specs.Records.{fits}
 use Rattle.history.proofs.RowLaws.{rows-from, rows-end}
-use Rattle.history.proofs.Queries.{index-hit, index-miss}
+use Rattle.group_view.proofs.Loops.{index-hit, index-miss}
 use mir.ValLaws.{toZ-ofZ}
 use mir.Val.{SFits}
 use mir.Syntax.{w64}

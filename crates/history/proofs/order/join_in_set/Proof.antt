@@ -5,7 +5,8 @@ use mir.ValLaws.{toZ-ofZ}
 use Rattle.group_order.specs.Lists.{any}
 use Rattle.group_order.specs.Entry.{inSet, isEndOf}
 use Rattle.history.specs.Store.{stateOf}
-use Rattle.history.specs.Records.{keyAs, pairIn}
+use Rattle.group_view.specs.Keys.{keyAs}
+use Rattle.history.specs.Records.{pairIn}
 use Rattle.history.specs.Calls.{JoinsSet}
 use Rattle.history.proofs.Appending.{asks-held, end-in-set}
 use borrow.Author.Needs.{needs}

@@ -8,7 +8,7 @@ use lib.Dec.{eqb}
 use borrow.Author.Tests.{eq-eqb, ne-eqb}
 use Rattle.group_order.specs.Commit.{ruledOut}
 use Rattle.group_order.proofs.Lists.{or-true-left, or-true-right}
-use Rattle.history.specs.Records.{keyAs}
+use Rattle.group_view.specs.Keys.{keyAs}
 use Rattle.history.specs.Tied.{turnAt}
 use Rattle.history.proofs.Repeating.{turn-ready}
 use borrow.Author.Needs.{needs}

@@ -5,7 +5,7 @@ use native.Mathlib.Omega.{arith}
 use lib.ListN.{getD}
 use Rattle.group_order.specs.State.{newWriter}
 use Rattle.group_order.specs.Marks.{pastOf}
-use Rattle.history.specs.Records.{keyAs}
+use Rattle.group_view.specs.Keys.{keyAs}
 use Rattle.history.specs.Store.{writersOf}
 use Rattle.history.proofs.ReadyLaws.{writer-known, writer-unknown, marks-past}
 use borrow.Author.Needs.{needs}

@@ -3,7 +3,7 @@ use mathlib.Core.List.{[]}
 use native.Mathlib.Omega.{arith}
 use lib.ListN.{getD}
 use Rattle.group_order.specs.State.{newWriter, writerOf}
-use Rattle.history.specs.Records.{keyAs}
+use Rattle.group_view.specs.Keys.{keyAs}
 use Rattle.history.specs.Store.{writersOf}
 use Rattle.history.proofs.ReadyLaws.{writer-known, writer-unknown, past-known, past-unknown}
 use borrow.Author.Needs.{needs}

@@ -5,9 +5,9 @@ use native.Mathlib.Omega.{arith}
 use lib.ListN.{drop}
 use borrow.Author.Needs.{needs}
 use Rattle.group_order.specs.Lists.{all}
-use Rattle.history.specs.Records.{keyAs}
+use Rattle.group_view.specs.Keys.{keyAs}
 use Rattle.history.specs.Store.{writersOf}
-use Rattle.history.specs.View.{pairsOf, pairsFor}
+use Rattle.group_view.specs.View.{pairsOf, pairsFor}
 use Rattle.history.specs.Ready.{rowPast}
 use Rattle.group_order.specs.Commit.{allFrom}
 use Rattle.group_order.specs.Marks.{pastOf}

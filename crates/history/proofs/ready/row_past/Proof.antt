@@ -1,14 +1,12 @@
 -- `group_order::ready::row_past` meets its contract: of the group, the row's pair decides.
-use native.Mathlib.Omega.{arith}
 use Rattle.history.specs.Ready.{rowPast}
-use Rattle.history.proofs.Views.{length-pairs}
 use Rattle.history.proofs.ReadyLaws.{pair-read, reader-small}
 use borrow.Author.Needs.{needs}
 use Rattle.history.proofs.ready.row_past.Statement.{statement}
 use Rattle.history.proofs.ready.row_past.Tie as tie
 
 pair-at-requires : tie.Need-pair-at-requires
-pair-at-requires c κs = omega (arith, length-pairs (c .args .view .now))
+pair-at-requires c κs = search needs
 
 same-requires : tie.Need-same-requires
 same-requires c κs = search needs
@@ -25,14 +23,14 @@ returns c =
     let d = c .before .before in
     let k = d .before .before .before in
     let s = k .before in
-    rw (pair-read (s .args .view .now) (s .args .i) (k .pair-at .result) (k .pair-at .ensures), ← d .same .ensures, c .before .if1 .taken) (c .pair-past-all .ensures)
+    rw (pair-read (s .args .view .now) (s .args .i) (k .pair-at .result) (k .pair-at .ensures) (s .pre .0), ← d .same .ensures, c .before .if1 .taken) (c .pair-past-all .ensures)
 
 returns-2 : tie.Need-returns-2
 unfolding rowPast
 returns-2 c =
     let k = c .before .before .before .before in
     let s = k .before in
-    rw (pair-read (s .args .view .now) (s .args .i) (k .pair-at .result) (k .pair-at .ensures), ← c .before .same .ensures, c .if1 .left)
+    rw (pair-read (s .args .view .now) (s .args .i) (k .pair-at .result) (k .pair-at .ensures) (s .pre .0), ← c .before .same .ensures, c .if1 .left)
 
 pub row-past-spec : {M : Type 1} → statement M
 row-past-spec =

@@ -7,7 +7,7 @@ use native.Mathlib.Numerals.{add-one}
 use borrow.Author.Tests.{le-leb, lt-leb}
 use Rattle.group_order.specs.Commit.{allFrom}
 use Rattle.group_order.specs.State.{newGroup}
-use Rattle.history.specs.Records.{keyAs}
+use Rattle.group_view.specs.Keys.{keyAs}
 use Rattle.history.proofs.RowLaws.{passed, failed}
 use Rattle.history.proofs.StoreLaws.{few-groups}
 use Rattle.history.proofs.Repeating.{turn-ruled, group-announced}

@@ -1,7 +1,7 @@
 -- `group_order::release::end_step` meets its contract: by what `set_waits` answers of the rows.
 use mir.Syntax.{w64}
 use mir.ValLaws.{toZ-ofZ}
-use Rattle.history.specs.Records.{keyAs}
+use Rattle.group_view.specs.Keys.{keyAs}
 use Rattle.history.specs.Tied.{spot}
 use Rattle.history.proofs.Spots.{fit-rows}
 use Rattle.history.proofs.SetSteps.{set-stays, set-goes}

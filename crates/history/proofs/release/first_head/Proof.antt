@@ -8,7 +8,8 @@ use lib.Dec.{leb}
 use lib.ListN.{drop}
 use borrow.Author.Tests.{leb-true, leb-false}
 use Rattle.history.specs.Store.{Row, rowAt, rowsIn}
-use Rattle.history.specs.Records.{keyAs, fits}
+use Rattle.group_view.specs.Keys.{keyAs}
+use Rattle.history.specs.Records.{fits}
 use Rattle.history.proofs.RowLaws.{length-rows, rows-from, rows-end}
 use Rattle.history.proofs.Lowest.{Headed, headed-none, headed-miss, headed-above, headed-first, headed-below, headed-all}
 use borrow.Author.Needs.{needs}

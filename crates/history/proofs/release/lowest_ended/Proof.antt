@@ -9,7 +9,8 @@ use Rattle.group_order.specs.Lists.{keep}
 use Rattle.group_order.specs.Entry.{ofGroup, marks}
 use Rattle.group_order.specs.Sets.{lesser, lowestSet, lowestEnded}
 use Rattle.history.specs.Store.{rowAt, rowsIn}
-use Rattle.history.specs.Records.{keyAs, optionalAs, fits}
+use Rattle.group_view.specs.Keys.{keyAs}
+use Rattle.history.specs.Records.{optionalAs, fits}
 use Rattle.history.proofs.RowLaws.{rows-from, rows-end}
 use Rattle.history.proofs.Lowest.{passing, passing-staged, lowest-hit, lowest-miss}
 use borrow.Author.Needs.{needs}

@@ -2,7 +2,7 @@
 use Prim.Native.Nat.{_+_, _*_}
 use native.Mathlib.Omega.{arith}
 use Rattle.history.specs.Store.{rowOf, rowAt}
-use Rattle.history.proofs.Table.{word-at}
+use Rattle.group_view.proofs.Table.{word-at}
 use borrow.Author.Needs.{needs}
 use Rattle.history.proofs.release.number_at.Statement.{statement}
 use Rattle.history.proofs.release.number_at.Tie as tie

@@ -9,7 +9,7 @@ use Rattle.coherent_set.specs.Answer.{answered}
 use Rattle.group_order.specs.Entry.{isSample}
 use Rattle.group_order.specs.Release.{malformed, samples}
 use Rattle.history.specs.Store.{groupsOf, stateOf}
-use Rattle.history.specs.View.{more, viewOf}
+use Rattle.group_view.specs.View.{more, viewOf}
 use Rattle.history.specs.Tied.{spot, Fit, ReleasedTo}
 use Rattle.history.proofs.Asked.{asked-count, counted-le}
 use Rattle.history.proofs.Spots.{fit-rows}

@@ -8,7 +8,7 @@ use Rattle.group_order.specs.Lists.{any}
 use Rattle.history.specs.Store.{rowsIn}
 use Rattle.history.specs.Records.{fits}
 use Rattle.history.proofs.RowLaws.{rows-from, rows-end}
-use Rattle.history.proofs.Queries.{any-hit, any-miss}
+use Rattle.group_view.proofs.Loops.{any-hit, any-miss}
 use Rattle.history.proofs.rows.any_row.Statement.{statement}
 use Rattle.history.proofs.rows.any_row.Tie as tie
 

@@ -5,7 +5,7 @@ use native.Mathlib.Omega.{arith}
 use lib.ListN.{length, take, drop}
 use borrow.Author.Needs.{needs}
 use Rattle.history.proofs.RowLaws.{copied, copied-same}
-use Rattle.history.proofs.Table.{length-part}
+use Rattle.group_view.proofs.Table.{length-part}
 use Rattle.history.proofs.rows.copy_row.Statement.{statement}
 use Rattle.history.proofs.rows.copy_row.Tie as tie
 

@@ -8,7 +8,7 @@ use Rattle.group_order.specs.Lists.{keep, count}
 use Rattle.history.specs.Store.{rowsIn}
 use Rattle.history.specs.Records.{fits}
 use Rattle.history.proofs.RowLaws.{rows-from, rows-end}
-use Rattle.history.proofs.Queries.{count-hit, count-miss}
+use Rattle.group_view.proofs.Loops.{count-hit, count-miss}
 use Rattle.history.proofs.rows.count_rows.Statement.{statement}
 use Rattle.history.proofs.rows.count_rows.Tie as tie
 

@@ -8,7 +8,7 @@ use Rattle.group_order.specs.Lists.{indexOf}
 use Rattle.history.specs.Store.{rowsIn}
 use Rattle.history.specs.Records.{fits}
 use Rattle.history.proofs.RowLaws.{rows-from, rows-end}
-use Rattle.history.proofs.Queries.{index-hit, index-miss}
+use Rattle.group_view.proofs.Loops.{index-hit, index-miss}
 use Rattle.history.proofs.rows.find_row.Statement.{statement}
 use Rattle.history.proofs.rows.find_row.Tie as tie
 

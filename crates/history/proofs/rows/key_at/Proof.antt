@@ -1,5 +1,5 @@
 -- `rows::key_at` meets its contract: both words are read.
-use Rattle.history.specs.Records.{keyAs}
+use Rattle.group_view.specs.Keys.{keyAs}
 use borrow.Author.Needs.{needs}
 use Rattle.history.proofs.rows.key_at.Statement.{statement}
 use Rattle.history.proofs.rows.key_at.Tie as tie

@@ -5,7 +5,7 @@ use borrow.Author.Needs.{needs}
 use Rattle.group_order.specs.Entry.{isSample}
 use Rattle.history.specs.Store.{rowOf}
 use Rattle.history.proofs.RowLaws.{beq-true, beq-false}
-use Rattle.history.proofs.Table.{word-at}
+use Rattle.group_view.proofs.Table.{word-at}
 use Rattle.history.proofs.rows.kind_fits.Statement.{statement}
 use Rattle.history.proofs.rows.kind_fits.Tie as tie
 

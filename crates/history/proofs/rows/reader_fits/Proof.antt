@@ -2,7 +2,7 @@
 use native.Mathlib.Omega.{arith}
 use borrow.Author.Needs.{needs}
 use Rattle.history.specs.Store.{rowOf}
-use Rattle.history.proofs.Table.{word-at}
+use Rattle.group_view.proofs.Table.{word-at}
 use Rattle.history.proofs.rows.reader_fits.Statement.{statement}
 use Rattle.history.proofs.rows.reader_fits.Tie as tie
 

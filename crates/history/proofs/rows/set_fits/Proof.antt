@@ -6,7 +6,7 @@ use borrow.Author.Tests.{ne-eqb}
 use borrow.Author.Needs.{needs}
 use Rattle.history.specs.Store.{rowOf}
 use Rattle.history.proofs.RowLaws.{bits-eqZ}
-use Rattle.history.proofs.Table.{word-at}
+use Rattle.group_view.proofs.Table.{word-at}
 use Rattle.history.proofs.rows.set_fits.Statement.{statement}
 use Rattle.history.proofs.rows.set_fits.Tie as tie
 

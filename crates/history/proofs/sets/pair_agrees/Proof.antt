@@ -2,7 +2,8 @@
 use mathlib.Core.Path.{sym, ap, _∙_}
 use mir.Syntax.{w64}
 use mir.ValLaws.{toZ-ofZ}
-use Rattle.history.specs.Records.{keyAs, entryAs}
+use Rattle.group_view.specs.Keys.{keyAs}
+use Rattle.history.specs.Records.{entryAs}
 use Rattle.history.proofs.PairLaws.{pair-found, pair-missing}
 use borrow.Author.Needs.{needs}
 use Rattle.history.proofs.sets.pair_agrees.Statement.{statement}

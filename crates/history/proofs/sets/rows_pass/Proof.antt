@@ -12,11 +12,13 @@ use Rattle.group_order.specs.Lists.{all, any}
 use Rattle.group_order.specs.Entry.{isEndOf}
 use Rattle.group_order.specs.Sets.{agrees, membersOfPair}
 use Rattle.history.specs.Store.{rowsIn, staged}
-use Rattle.history.specs.View.{pairsOf, pairsFor, pairFor}
-use Rattle.history.specs.Records.{keyAs}
-use Rattle.history.proofs.Queries.{all-keep-or, all-hit, all-miss}
+use Rattle.group_view.specs.View.{pairsOf, pairsFor, pairFor}
+use Rattle.group_view.specs.Keys.{keyAs}
+use Rattle.history.proofs.Queries.{all-keep-or}
+use Rattle.group_view.proofs.Loops.{all-hit, all-miss}
 use Rattle.history.proofs.RowLaws.{passed, failed}
-use Rattle.history.proofs.PairLaws.{pairs-few, pairs-from, passes}
+use Rattle.group_view.proofs.Views.{pairs-read}
+use Rattle.history.proofs.PairLaws.{passes}
 use borrow.Author.Needs.{needs}
 use Rattle.history.proofs.sets.rows_pass.Statement.{statement}
 use Rattle.history.proofs.sets.rows_pass.Tie as tie
@@ -38,7 +40,7 @@ unfolding pairsFor passes
 loop-holds c = (omega arith, all-keep-or _ _ _)
 
 pair-at-requires : tie.Need-pair-at-requires Inv-loop μ-loop
-pair-at-requires c κs = omega (arith, pairs-few (c .before .before .before .args .view .now))
+pair-at-requires c κs = search needs
 
 row-passes-requires : tie.Need-row-passes-requires Inv-loop μ-loop
 row-passes-requires c κs = search needs
@@ -49,7 +51,7 @@ returns c =
     let s = c .before .before in
     let w = s .before .before in
     let a = w .before .before .args in
-    let from = pairs-from (w .loop .i) (a .view .now) (s .pair-at .result) (s .pair-at .ensures) (omega arith) in
+    let from = pairs-read (w .loop .i) (a .view .now) (s .pair-at .result) (s .pair-at .ensures) (omega arith) in
     sym (rw (toZ-ofZ w64 (a .set) (w .before .before .fits .set)) at (w .loop .inv .1 ∙ all-hit _ _ _ _ from (failed (c .before .row-passes .ensures) (c .if1 .taken))))
 
 add-i : tie.Need-add-i Inv-loop μ-loop
@@ -64,7 +66,7 @@ loop-again c =
     let s = c .before .before in
     let w = s .before .before in
     let a = w .before .before .args in
-    let from = pairs-from (w .loop .i) (a .view .now) (s .pair-at .result) (s .pair-at .ensures) (omega arith) in
+    let from = pairs-read (w .loop .i) (a .view .now) (s .pair-at .result) (s .pair-at .ensures) (omega arith) in
     (omega arith, w .loop .inv .1 ∙ all-miss _ _ _ _ from (passed (c .before .row-passes .ensures) (c .if1 .left)))
 
 returns-2 : tie.Need-returns-2 Inv-loop μ-loop

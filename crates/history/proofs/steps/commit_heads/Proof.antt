@@ -1,6 +1,7 @@
 -- `commit_heads`: each turn commits the first row of the number; its fuel is at least the number's entries that are left.
 use native.Mathlib.Omega.{arith}
-use Rattle.history.specs.Records.{keyAs, Asks}
+use Rattle.group_view.specs.Keys.{keyAs}
+use Rattle.history.specs.Records.{Asks}
 use Rattle.history.specs.Tied.{spot}
 use Rattle.history.proofs.Spots.{fit-rows}
 use Rattle.history.proofs.Settling.{Heads, isHeadOf, heads-start, heads-spent, heads-past, heads-more, head-pending, head-group}

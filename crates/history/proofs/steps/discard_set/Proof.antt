@@ -5,7 +5,7 @@ use mir.ValLaws.{toZ-ofZ}
 use Rattle.group_order.specs.Lists.{count}
 use Rattle.group_order.specs.Sets.{membersOf}
 use Rattle.history.specs.Store.{rowsIn}
-use Rattle.history.specs.Records.{keyAs}
+use Rattle.group_view.specs.Keys.{keyAs}
 use Rattle.history.proofs.Asked.{count-asked}
 use Rattle.history.proofs.SetSteps.{discarded}
 use borrow.Author.Needs.{needs}

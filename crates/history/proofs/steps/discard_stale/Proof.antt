@@ -5,7 +5,8 @@ use mathlib.Core.Option.{some}
 use native.Mathlib.Omega.{arith}
 use mir.Syntax.{w64}
 use mir.Val.{toZ, ofZ}
-use Rattle.history.specs.Records.{keyAs, optionalAs}
+use Rattle.group_view.specs.Keys.{keyAs}
+use Rattle.history.specs.Records.{optionalAs}
 use Rattle.history.proofs.Lowest.{StaleTimes, times-none, times-next, times-stop, times-all}
 use borrow.Author.Needs.{needs}
 use Rattle.history.proofs.steps.discard_stale.Statement.{statement}

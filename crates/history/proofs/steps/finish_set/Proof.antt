@@ -3,8 +3,8 @@ use mathlib.Core.Path.{sym, _∙_}
 use mathlib.Core.Bool.{true, false}
 use mir.Syntax.{w64}
 use mir.ValLaws.{toZ-ofZ}
-use Rattle.history.specs.Records.{keyAs}
-use Rattle.history.specs.View.{pairsFor}
+use Rattle.group_view.specs.Keys.{keyAs}
+use Rattle.group_view.specs.View.{pairsFor}
 use Rattle.history.specs.Tied.{spot}
 use Rattle.history.proofs.Spots.{fit-rows}
 use Rattle.history.proofs.SetSteps.{finished}

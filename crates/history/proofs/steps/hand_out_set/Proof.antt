@@ -1,7 +1,7 @@
 -- `group_order::steps::hand_out_set` meets its contract: the places written are the members', the rows that leave are the set's.
 use mir.Syntax.{w64}
 use mir.ValLaws.{toZ-ofZ}
-use Rattle.history.specs.Records.{keyAs}
+use Rattle.group_view.specs.Keys.{keyAs}
 use Rattle.history.specs.Tied.{spot}
 use Rattle.history.proofs.Spots.{fit-rows}
 use Rattle.history.proofs.SetSteps.{handed-out, members-room}

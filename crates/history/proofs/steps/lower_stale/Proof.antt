@@ -4,7 +4,8 @@ use native.Mathlib.Omega.{arith}
 use mir.Syntax.{w64}
 use mir.Val.{toZ, ofZ}
 use Rattle.history.specs.Store.{rowAt, rowsIn, staged}
-use Rattle.history.specs.Records.{keyAs, optionalAs, entryAs}
+use Rattle.group_view.specs.Keys.{keyAs}
+use Rattle.history.specs.Records.{optionalAs, entryAs}
 use Rattle.history.proofs.Lowest.{read-set, stale-absent, stale-own, stale-ended, stale-open, marked-any, marked-none}
 use borrow.Author.Needs.{needs}
 use Rattle.history.proofs.steps.lower_stale.Statement.{statement}

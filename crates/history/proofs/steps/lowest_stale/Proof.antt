@@ -7,7 +7,8 @@ use lib.Dec.{eqb}
 use lib.ListN.{drop}
 use Rattle.group_order.proofs.Lists.{and-right}
 use Rattle.history.specs.Store.{rowAt, rowsIn, staged}
-use Rattle.history.specs.Records.{keyAs, optionalAs, fits}
+use Rattle.group_view.specs.Keys.{keyAs}
+use Rattle.history.specs.Records.{optionalAs, fits}
 use Rattle.history.proofs.RowLaws.{rows-from, rows-end}
 use Rattle.history.proofs.Lowest.{StaleFrom, stalest-none, stalest-hit, stalest-miss, stalest-all}
 use borrow.Author.Needs.{needs}

@@ -4,7 +4,7 @@ use mathlib.Core.Path.{_≡_, sym, _∙_}
 use native.Mathlib.Omega.{arith}
 use lib.ListN.{length, take, drop, length-set}
 use lib.Seq.{take-all}
-use Rattle.history.proofs.Table.{part-more}
+use Rattle.group_view.proofs.Table.{part-more}
 use borrow.Author.Needs.{needs}
 use Rattle.history.proofs.words.get_words.Statement.{statement}
 use Rattle.history.proofs.words.get_words.Tie as tie

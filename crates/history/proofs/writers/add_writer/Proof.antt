@@ -4,7 +4,7 @@ use mathlib.Core.Path.{refl}
 use lib.ListN.{replicate}
 use borrow.Author.Needs.{needs}
 use Rattle.history.proofs.WriterWords.{push-writer}
-use Rattle.history.specs.Records.{keyAs}
+use Rattle.group_view.specs.Keys.{keyAs}
 use Rattle.group_order.specs.State.{newWriter}
 use Rattle.history.specs.Store.{writerOf}
 use Rattle.history.proofs.writers.add_writer.Statement.{statement}

@@ -6,7 +6,7 @@ use native.Mathlib.Omega.{arith}
 use lib.ListN.{length}
 use borrow.Author.Needs.{needs}
 use Rattle.history.proofs.Places.{Missed, missed-none, missed-more, missed-hit, missed-all}
-use Rattle.history.specs.Records.{keyAs}
+use Rattle.group_view.specs.Keys.{keyAs}
 use Rattle.group_order.specs.State.{isWriter, newWriter}
 use Rattle.history.specs.Store.{writersOf}
 use Rattle.history.proofs.writers.find_writer.Statement.{statement}

@@ -10,7 +10,7 @@ use Rattle.history.proofs.StoreLaws.{state-writers}
 use Rattle.history.proofs.WriterWords.{pushed-at}
 use Rattle.group_order.specs.Marks.{hearWriter}
 use Rattle.group_order.specs.Offer.{pair33}
-use Rattle.history.specs.Records.{keyAs}
+use Rattle.group_view.specs.Keys.{keyAs}
 use Rattle.group_order.specs.State.{isWriter, knowsWriter}
 use Rattle.history.specs.Store.{writersOf, stateOf}
 use Rattle.history.proofs.writers.hear_writer.Statement.{statement}

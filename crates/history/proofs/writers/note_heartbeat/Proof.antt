@@ -5,7 +5,7 @@ use native.Mathlib.Omega.{arith}
 use borrow.Author.Needs.{needs}
 use Rattle.history.proofs.WriterWords.{written-none, written-more, written-word, written-length, told, row-announced}
 use Rattle.group_order.specs.Marks.{announced, orKeep}
-use Rattle.history.specs.Store.{digestOf}
+use Rattle.group_view.specs.View.{digestOf}
 use Rattle.history.proofs.writers.note_heartbeat.Statement.{statement}
 use Rattle.history.proofs.writers.note_heartbeat.Tie as tie
 

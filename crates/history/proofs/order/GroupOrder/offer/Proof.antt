@@ -12,7 +12,8 @@ use Rattle.group_order.specs.State.{State}
 use Rattle.group_order.specs.Marks.{number, saw}
 use Rattle.group_order.specs.Offer.{Offer, Fate, isStored, isJoined, isLate, ninth, pair33, entryOf, place, heardOffer, offer}
 use Rattle.history.specs.Store.{stateOf}
-use Rattle.history.specs.Records.{keyAs, entryAs}
+use Rattle.group_view.specs.Keys.{keyAs}
+use Rattle.history.specs.Records.{entryAs}
 use Rattle.history.specs.Calls.{offerAs, offeredAs, Heard, Kept, withLate}
 use Rattle.history.proofs.Accepting.{Accepted, accepted, answered-so, refused-so, joined-set, room-stored, room-joined}
 use borrow.Author.Needs.{needs}

@@ -50,30 +50,30 @@ use base.Logic.{sep, comm∗, emp∗, monoL, mono∗}
 use contract.Monad.{factI}
 use types.Kit.{Step, step, prop}
 use Rattle.history.specs.Store.{stateOf}
-use Rattle.history.specs.View.{Cleared, Noted, NotedDigest, Steps, rowsAs, NotedRows}
+use Rattle.group_view.specs.View.{Cleared, Noted, NotedDigest, Steps, rowsAs, NotedRows}
 use Rattle.history.specs.Calls.{releasedAs, releaseNoted, releaseTo, Kept}
 use Rattle.history.proofs.Noting.{release-said}
-use Rattle.history.specs.declared.view.Pair.{Pair}
-use Rattle.history.proofs.view.Pair as Pair-T
-use Rattle.history.proofs.view.Pair.Laws as Pair-L
-use Rattle.history.specs.declared.view.DigestRow.{DigestRow}
-use Rattle.history.proofs.view.DigestRow as DigestRow-T
-use Rattle.history.proofs.view.DigestRow.Laws as DigestRow-L
+use Rattle.group_view.specs.declared.view.Pair.{Pair}
+use Rattle.group_view.proofs.view.Pair as Pair-T
+use Rattle.group_view.proofs.view.Pair.Laws as Pair-L
+use Rattle.group_view.specs.declared.view.DigestRow.{DigestRow}
+use Rattle.group_view.proofs.view.DigestRow as DigestRow-T
+use Rattle.group_view.proofs.view.DigestRow.Laws as DigestRow-L
 use Rattle.history.specs.declared.release.Released.{Released}
 use Rattle.history.proofs.release.Released as Released-T
 use Rattle.history.proofs.release.Released.Laws as Released-L
-use Rattle.history.proofs.view.clear as clear-f
-use Rattle.history.proofs.view.clear.Symbol as clear-def
-use Rattle.history.proofs.view.clear.Symbol.{name as #history·view·clear}
-use Rattle.history.proofs.view.clear.Met as clear-thm
-use Rattle.history.proofs.view.note_pairs as note-pairs-f
-use Rattle.history.proofs.view.note_pairs.Symbol as note-pairs-def
-use Rattle.history.proofs.view.note_pairs.Symbol.{name as #history·view·note-pairs}
-use Rattle.history.proofs.view.note_pairs.Met as note-pairs-thm
-use Rattle.history.proofs.view.note_digests as note-digests-f
-use Rattle.history.proofs.view.note_digests.Symbol as note-digests-def
-use Rattle.history.proofs.view.note_digests.Symbol.{name as #history·view·note-digests}
-use Rattle.history.proofs.view.note_digests.Met as note-digests-thm
+use Rattle.group_view.proofs.view.clear as clear-f
+use Rattle.group_view.proofs.view.clear.Symbol as clear-def
+use Rattle.group_view.proofs.view.clear.Symbol.{name as #group-view·view·clear}
+use Rattle.group_view.proofs.view.clear.Met as clear-thm
+use Rattle.group_view.proofs.view.note_pairs as note-pairs-f
+use Rattle.group_view.proofs.view.note_pairs.Symbol as note-pairs-def
+use Rattle.group_view.proofs.view.note_pairs.Symbol.{name as #group-view·view·note-pairs}
+use Rattle.group_view.proofs.view.note_pairs.Met as note-pairs-thm
+use Rattle.group_view.proofs.view.note_digests as note-digests-f
+use Rattle.group_view.proofs.view.note_digests.Symbol as note-digests-def
+use Rattle.group_view.proofs.view.note_digests.Symbol.{name as #group-view·view·note-digests}
+use Rattle.group_view.proofs.view.note_digests.Met as note-digests-thm
 use Rattle.history.proofs.release.release_lent as release-lent-f
 use Rattle.history.proofs.release.release_lent.Symbol as release-lent-def
 use Rattle.history.proofs.release.release_lent.Symbol.{name as #history·release·release-lent}
@@ -245,7 +245,7 @@ module _ {M : Type 1} (𝓤 : URA M) (H : Heap 𝓤) (A : Atoms 𝓤) (W : Given
   goes·inner view1 view2 view3 =
       qed W ((((((‵ (flft κ0 q0) ⊛ ‵ (flft κ1 q1)) ⊛ ‵ (flft κ4 q4)) ⊛ (Own·store store-now)) ⊛ (Own·view view3)) ⊛ Own·out) ∷ []) ∵ split ! $ split ! $ split ! $ split ! $ split ! $ nothing ! $ move ! (3 ∷ 0 ∷ []) $ join ! $ move ! (2 ∷ 0 ∷ []) $ join ! $ move ! (1 ∷ 0 ∷ []) $ join ! $ nothing ! $ move ! (4 ∷ 0 ∷ []) $ fjoin ! $ owned ! u64 (Is u64) (uint-makes 𝓤 H A W w64) time _ (refl, time-fits) $ fjoin ! $ move ! (3 ∷ 0 ∷ []) $ fjoin ! $ move ! (2 ∷ 0 ∷ []) $ fjoin ! $ move ! (1 ∷ 0 ∷ []) $ join ! $ frame ! $ done !
 
-  module _ (C : Calls 𝓤 H) (Λ : Loops 𝓤 H) (fm : FmC 𝓤 H (W .laws) C) (known·clear : Triple 𝓤 (C #history·view·clear) (C·clear 𝓤 H A at-mem run)) (known·note-pairs : Triple 𝓤 (C #history·view·note-pairs) (C·note-pairs 𝓤 H A at-mem run)) (known·note-digests : Triple 𝓤 (C #history·view·note-digests) (C·note-digests 𝓤 H A at-mem run)) (known·release-lent : Triple 𝓤 (C #history·release·release-lent) (C·release-lent 𝓤 H A at-mem run)) where
+  module _ (C : Calls 𝓤 H) (Λ : Loops 𝓤 H) (fm : FmC 𝓤 H (W .laws) C) (known·clear : Triple 𝓤 (C #group-view·view·clear) (C·clear 𝓤 H A at-mem run)) (known·note-pairs : Triple 𝓤 (C #group-view·view·note-pairs) (C·note-pairs 𝓤 H A at-mem run)) (known·note-digests : Triple 𝓤 (C #group-view·view·note-digests) (C·note-digests 𝓤 H A at-mem run)) (known·release-lent : Triple 𝓤 (C #history·release·release-lent) (C·release-lent 𝓤 H A at-mem run)) where
     walk : Room Pair-T.the-row (length counted-now) → Room DigestRow-T.the-row (length digests-now) → Room u64 (length out-now) → ent 𝓤 (onEntry 𝓤 H A f.signature (κ0, (κ1, (κ2, (κ3, (κ4, tt))))) (q0, (q1, (q2, (q3, (q4, tt))))) a vals) (WpFn 𝓤 H C Λ code.function (store-val ∷ view-val ∷ counted-val ∷ digests-val ∷ (vint w64 time) ∷ out-val ∷ []) Post)
     walk room·counted room·digests room·out =
         qed W ((‵ (flft κ0 q0) ⊛ ‵ (flft κ1 q1) ⊛ ‵ (flft κ2 q2) ⊛ ‵ (flft κ3 q3) ⊛ ‵ (flft κ4 q4) ⊛ ‵ ftrue) ∷ ‵ (owns (MutRef (named 0) κ0 (Array u64 6984) ∷ MutRef (named 1) κ1 (Array u64 1307) ∷ ShrSlice (named 2) κ2 Pair-T.the-row ∷ ShrSlice (named 3) κ3 DigestRow-T.the-row ∷ u64 ∷ MutSlice (named 4) κ4 u64 ∷ []) a vals) ∷ []) ∵
@@ -313,7 +313,7 @@ module _ {M : Type 1} (𝓤 : URA M) (H : Heap 𝓤) (A : Atoms 𝓤) (W : Given
         returns ! (look ! 39 refl) $ forget ! 11 refl $ forget ! 13 refl $ forget ! 15 refl $ forget ! 17 refl $ forget ! 19 refl $ forget ! 21 refl $ forget ! 23 refl $ forget ! 25 refl $ forget ! 27 refl $ forget ! 29 refl $ forget ! 31 refl $ forget ! 33 refl $ forget ! 35 refl $ forget ! 37 refl $ forget ! 39 refl $ move ! (39 ∷ 40 ∷ []) $ free1 ! $ move ! (37 ∷ 38 ∷ []) $ free1 ! $ move ! (35 ∷ 36 ∷ []) $ free1 ! $ move ! (33 ∷ 34 ∷ []) $ free1 ! $ move ! (31 ∷ 32 ∷ []) $ free1 ! $ move ! (29 ∷ 30 ∷ []) $ free1 ! $ move ! (27 ∷ 28 ∷ []) $ free1 ! $ move ! (25 ∷ 26 ∷ []) $ free1 ! $ move ! (23 ∷ 24 ∷ []) $ free1 ! $ move ! (21 ∷ 22 ∷ []) $ free1 ! $ move ! (19 ∷ 20 ∷ []) $ free1 ! $ move ! (17 ∷ 18 ∷ []) $ free1 ! $ move ! (15 ∷ 16 ∷ []) $ free1 ! $ move ! (13 ∷ 14 ∷ []) $ free1 ! $ move ! (11 ∷ 12 ∷ []) $ free1 ! $ free0 ! $ keep ! (3 ∷ 2 ∷ 9 ∷ 7 ∷ 1 ∷ 6 ∷ 5 ∷ 10 ∷ 8 ∷ 4 ∷ 0 ∷ []) $
         by ! (exits r u (ws .0) (ws .1 .0) (ws .1 .1 .1 .0) (given·here (ws·0 .0) (ws·1 .0) (ws·2 .0) r (ws .0) (ws .1 .0) (ws .1 .1 .1 .0) e·0 e·1 e·2 e) l5)))))))))))))))))))))))))))))))))))))))))))
 
-module _ {M : Type 1} (𝓤 : URA M) (H : Heap 𝓤) (A : Atoms 𝓤) (W : Given 𝓤 H A) (at-mem : Memory → SProp 𝓤) (run : Routine → Fun 𝓤) (𝓣 : Tables 𝓤 H) (known·clear : Triple 𝓤 (𝓣 .C #history·view·clear) (C·clear 𝓤 H A at-mem run)) (known·note-pairs : Triple 𝓤 (𝓣 .C #history·view·note-pairs) (C·note-pairs 𝓤 H A at-mem run)) (known·note-digests : Triple 𝓤 (𝓣 .C #history·view·note-digests) (C·note-digests 𝓤 H A at-mem run)) (known·release-lent : Triple 𝓤 (𝓣 .C #history·release·release-lent) (C·release-lent 𝓤 H A at-mem run)) where
+module _ {M : Type 1} (𝓤 : URA M) (H : Heap 𝓤) (A : Atoms 𝓤) (W : Given 𝓤 H A) (at-mem : Memory → SProp 𝓤) (run : Routine → Fun 𝓤) (𝓣 : Tables 𝓤 H) (known·clear : Triple 𝓤 (𝓣 .C #group-view·view·clear) (C·clear 𝓤 H A at-mem run)) (known·note-pairs : Triple 𝓤 (𝓣 .C #group-view·view·note-pairs) (C·note-pairs 𝓤 H A at-mem run)) (known·note-digests : Triple 𝓤 (𝓣 .C #group-view·view·note-digests) (C·note-digests 𝓤 H A at-mem run)) (known·release-lent : Triple 𝓤 (𝓣 .C #history·release·release-lent) (C·release-lent 𝓤 H A at-mem run)) where
   release-walks : Walks 𝓤 H A f.ended stayed (WpFn 𝓤 H (𝓣 .C) (𝓣 .Λ) code.function) (f.clauses 𝓤 H A at-mem run)
   release-walks = walked 𝓤 H A f.ended stayed (f.clauses 𝓤 H A at-mem run) (WpFn 𝓤 H (𝓣 .C) (𝓣 .Λ) code.function) (λ κs. (ptr-vals, (ptr-vals, (slice-vals, (slice-vals, (uint-vals w64, (slice-vals, tt))))))) (λ κs. (mut-tells (named 0) (κs .0) (Array u64 6984), (mut-tells (named 1) (κs .1 .0) (Array u64 1307), (shr-slice-tells (named 2) (κs .1 .1 .0) Pair-T.the-row, (shr-slice-tells (named 3) (κs .1 .1 .1 .0) DigestRow-T.the-row, (uint-tells w64, (mut-slice-tells (named 4) (κs .1 .1 .1 .1 .0) u64, tt)))))))
       (λ κs qs bounds a _ are. via 𝓤 _ (fst∗ 𝓤 _ (emp 𝓤)) (walk 𝓤 H A W at-mem run (κs .0) (qs .0) (κs .1 .0) (qs .1 .0) (κs .1 .1 .0) (qs .1 .1 .0) (κs .1 .1 .1 .0) (qs .1 .1 .1 .0) (κs .1 .1 .1 .1 .0) (qs .1 .1 .1 .1 .0) (a .0 .ptr .0) (a .0 .ptr .1) (a .0 .name) (a .0 .now) (a .1 .0 .ptr .0) (a .1 .0 .ptr .1) (a .1 .0 .name) (a .1 .0 .now) (a .1 .1 .0 .ptr .0) (a .1 .1 .0 .ptr .1) (a .1 .1 .0 .name) (a .1 .1 .0 .now) (a .1 .1 .1 .0 .ptr .0) (a .1 .1 .1 .0 .ptr .1) (a .1 .1 .1 .0 .name) (a .1 .1 .1 .0 .now) (a .1 .1 .1 .1 .0) (are .1 .1 .1 .1 .0 .1) (a .1 .1 .1 .1 .1 .0 .ptr .0) (a .1 .1 .1 .1 .1 .0 .ptr .1) (a .1 .1 .1 .1 .1 .0 .name) (a .1 .1 .1 .1 .1 .0 .now) (𝓣 .C) (𝓣 .Λ) (fmOf 𝓤 H (W .laws) 𝓣) known·clear known·note-pairs known·note-digests known·release-lent (are .1 .1 .0 .0 .1) (are .1 .1 .1 .0 .0 .1) (are .1 .1 .1 .1 .1 .0 .0 .1)))
@@ -327,7 +327,7 @@ release-spec 𝓤 H 𝓜 𝓖 𝓡 =
     entered 𝓤 H (tripleOf 𝓤 H (𝓖 .A) f.signature (f.spec 𝓤 H (𝓖 .A) (𝓜 .mem) (𝓡 .run)))
     (tables 𝓤 H 𝓜 𝓡 code.env .C) (tables 𝓤 H 𝓜 𝓡 code.env .Λ) #history·order·GroupOrder·release code.function (code.unfolded 𝓤 H 𝓜 𝓡)
     (release-meets 𝓤 H (𝓖 .A) (givenOf 𝓤 H 𝓜 𝓖) (𝓜 .mem) (𝓡 .run) (tablesOf 𝓤 H 𝓜 (tables 𝓤 H 𝓜 𝓡 code.env))
-    (cited 𝓤 H (C·clear 𝓤 H (𝓖 .A) (𝓜 .mem) (𝓡 .run)) 𝓜 𝓡 code.env #history·view·clear clear-def.routine code.calls-history·view·clear (clear-thm.met 𝓤 H 𝓜 𝓖 𝓡))
-    (cited 𝓤 H (C·note-pairs 𝓤 H (𝓖 .A) (𝓜 .mem) (𝓡 .run)) 𝓜 𝓡 code.env #history·view·note-pairs note-pairs-def.routine code.calls-history·view·note-pairs (note-pairs-thm.met 𝓤 H 𝓜 𝓖 𝓡))
-    (cited 𝓤 H (C·note-digests 𝓤 H (𝓖 .A) (𝓜 .mem) (𝓡 .run)) 𝓜 𝓡 code.env #history·view·note-digests note-digests-def.routine code.calls-history·view·note-digests (note-digests-thm.met 𝓤 H 𝓜 𝓖 𝓡))
+    (cited 𝓤 H (C·clear 𝓤 H (𝓖 .A) (𝓜 .mem) (𝓡 .run)) 𝓜 𝓡 code.env #group-view·view·clear clear-def.routine code.calls-group-view·view·clear (clear-thm.met 𝓤 H 𝓜 𝓖 𝓡))
+    (cited 𝓤 H (C·note-pairs 𝓤 H (𝓖 .A) (𝓜 .mem) (𝓡 .run)) 𝓜 𝓡 code.env #group-view·view·note-pairs note-pairs-def.routine code.calls-group-view·view·note-pairs (note-pairs-thm.met 𝓤 H 𝓜 𝓖 𝓡))
+    (cited 𝓤 H (C·note-digests 𝓤 H (𝓖 .A) (𝓜 .mem) (𝓡 .run)) 𝓜 𝓡 code.env #group-view·view·note-digests note-digests-def.routine code.calls-group-view·view·note-digests (note-digests-thm.met 𝓤 H 𝓜 𝓖 𝓡))
     (cited 𝓤 H (C·release-lent 𝓤 H (𝓖 .A) (𝓜 .mem) (𝓡 .run)) 𝓜 𝓡 code.env #history·release·release-lent release-lent-def.routine code.calls-history·release·release-lent (release-lent-thm.met 𝓤 H 𝓜 𝓖 𝓡)))

@@ -1,7 +1,8 @@
 -- `group_order::query::Query::of_copy` meets its contract: of the seven parts only those asked for are left.
 use lib.Dec.{eqb}
 use Rattle.group_order.specs.Entry.{ofGroup}
-use Rattle.history.specs.Records.{fits, keyAs}
+use Rattle.history.specs.Records.{fits}
+use Rattle.group_view.specs.Keys.{keyAs}
 use Rattle.group_order.specs.Guid.{sameGuid}
 use Rattle.history.proofs.Asked.{copy-asked}
 use borrow.Author.Needs.{needs}

@@ -2,7 +2,8 @@
 use lib.Dec.{eqb}
 use mir.Syntax.{w64}
 use mir.ValLaws.{toZ-ofZ}
-use Rattle.history.specs.Records.{fits, keyAs}
+use Rattle.history.specs.Records.{fits}
+use Rattle.group_view.specs.Keys.{keyAs}
 use Rattle.history.proofs.Asked.{pair-asked}
 use borrow.Author.Needs.{needs}
 use Rattle.history.proofs.query.Query.of_pair.Statement.{statement}
