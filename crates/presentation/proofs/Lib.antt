@@ -1,3 +1,4 @@
+pub mod Arrays
 pub mod Packing
 pub mod Shifting
 pub mod GateLaws

@@ -24,10 +24,6 @@ use Rattle.presentation.specs.Tbf.{fromZero, timeOf, words, written, isO
 abbrev pub free : Held
 free = record { instance = 0; item = 0; due = record { sec = pos 0; nanosec = 0 } }
 
--- the array's length, from what fits it
-pub arr-len : {X Y : Type 0} (f : X → Y) (l : List X) (n : ℕ) → length (map f l) ≡ n → length l ≡ n
-arr-len f l n e = sym (length-map l f) ∙ e
-
 -- ---- times
 
 -- below 0

@@ -9,7 +9,8 @@ use Rattle.group_order.specs.Lists.{keep, count}
 use Rattle.history.specs.Records.{optionalAs}
 use Rattle.history.proofs.Queries.{count-hit, count-miss}
 use Rattle.presentation.specs.Gate.{leaves, holdAs}
-use Rattle.presentation.proofs.GateLaws.{blank, arr-len, hold-length, hold-from}
+use Rattle.presentation.proofs.Arrays.{arr-len}
+use Rattle.presentation.proofs.GateLaws.{blank, hold-length, hold-from}
 use Rattle.presentation.proofs.gate.count_released.Statement.{statement}
 use Rattle.presentation.proofs.gate.count_released.Tie as tie
 
