@@ -1,20 +1,20 @@
 -- Laws of the gate: the held members as a list, and the words of the lent list.
 use Prim.Native.Nat.{ℕ, zero, suc, _+_, _*_, _≤_, _<_, min}
 use mathlib.Core.Path.{_≡_, refl, sym, ap, _∙_}
-use mathlib.Core.Bool.{Bool, true, false, not, cond}
+use mathlib.Core.Bool.{Bool, true, false, cond}
 use mathlib.Core.List.{List, [], _∷_, _++_, map, map-append, append-assoc, append-nil}
 use mathlib.Core.Option.{Option, some, none}
 use native.Mathlib.Numerals.{add-one}
 use native.Mathlib.Omega.{arith}
 use lib.IntN.{ℤ, pos}
 use lib.Dec.{isEq}
-use lib.ListN.{length, take, drop, getD, set, length-append, length-map, length-take, length-drop, length-set, List·getD-map}
-use lib.Seq.{drop-cons, drop-drop, drop-append-add, drop-set-lt, take-suc, take-at, take-suc-set, getD-take, getD-drop, paste}
+use lib.ListN.{length, take, drop, getD, set, length-append, length-map, length-take, length-drop, List·getD-map}
+use lib.Seq.{drop-cons, drop-drop, drop-append-add, take-suc, take-at, take-suc-set, getD-take, paste}
 use Rattle.group_order.specs.Lists.{keep}
 use Rattle.group_order.specs.Guid.{Guid, compareGuid, sameGuid}
 use Rattle.group_order.specs.Answers.{orderAs}
 use Rattle.group_order.specs.declared.guid.GuidOrder.{GuidOrder}
-use Rattle.group_order.proofs.Lists.{keep-append, keep-last, keep-map, length-keep, none-some}
+use Rattle.group_order.proofs.Lists.{keep-last, keep-map, length-keep, none-some}
 use Rattle.presentation.specs.Gate.{Kind, isSample, isLifecycle, isEnd, Item, ends, changes, memberMark, firstMark, wordsOf, words, written, memberAs, holdAs}
 use Rattle.presentation.specs.declared.gate.Member.{Member}
 use Rattle.presentation.specs.declared.gate.CoherentHold.{CoherentHold}
@@ -41,6 +41,9 @@ module _ (h : CoherentHold) where
 
   pub hold-length : length (h .held) ≡ 64 → length (holdAs h) ≡ min (h .len) 64
   hold-length e = held-length ∙ length-take (h .len) (h .held) ∙ ap (min (h .len)) e
+
+  pub hold-few : length (h .held) ≡ 64 → length (holdAs h) ≤ 64
+  hold-few e = omega (arith, hold-length e)
 
   pub hold-is : holdAs h ≡ map (λ m. memberAs m) (take (length (holdAs h)) (h .held))
   hold-is = unfold holdAs in sym (ap (λ n. map (λ m. memberAs m) (take n (h .held))) held-length ∙ ap (map (λ m. memberAs m)) (take-taken (h .len) (h .held)))

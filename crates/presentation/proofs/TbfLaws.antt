@@ -1,19 +1,18 @@
 -- Laws of the filter hold.
 use Prim.Native.Nat.{ℕ, zero, suc, _+_, _*_, _/_, _%_, _≤_, _<_, min}
 use mathlib.Core.Path.{_≡_, refl, sym, ap, _∙_}
-use mathlib.Core.Bool.{Bool, true, false, _&&_, _||_, not, cond}
-use mathlib.Core.List.{List, [], _∷_, _++_, append-assoc, map}
+use mathlib.Core.Bool.{true, false, _&&_, not}
+use mathlib.Core.List.{List, [], _∷_, _++_, append-assoc}
 use native.Mathlib.Numerals.{add-one}
 use native.Mathlib.Omega.{arith}
-use borrow.Author.Tests.{ltb-true, lt-leb, eq-eqb, ne-eqb}
+use borrow.Author.Tests.{ltb-true, lt-leb, ne-eqb}
 use lib.Dec.{T, leb, eqb}
 use lib.IntN.{ℤ, pos, negsuc, natAbs}
 use lib.Signed.{ltZ, nonNeg}
-use lib.ListN.{length, take, drop, set, getD, length-append, length-map, length-take}
+use lib.ListN.{length, take, drop, set, getD, length-append, length-take}
 use lib.Seq.{take-suc, take-set-lt, drop-cons, set-at, getD-take, length-take-le}
 use mir.Syntax.{w32}
 use mir.Val.{SFits}
-use Rattle.coherent_set.specs.Answer.{eqZ}
 use Rattle.group_order.specs.Lists.{keep, any}
 use Rattle.group_order.proofs.Lists.{keep-fewer, keep-none, length-split, not-both}
 use Rattle.history.proofs.Places.{Shifted, shifted-more, shifted-put}

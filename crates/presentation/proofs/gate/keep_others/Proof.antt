@@ -1,12 +1,12 @@
 -- `keep_others`: the loop packs the members that are not released to the front.
-use Prim.Native.Nat.{_≤_, _-_}
+use Prim.Native.Nat.{_-_}
 use mathlib.Core.Path.{_≡_, sym, ap, _∙_}
 use mathlib.Core.Bool.{not}
 use native.Mathlib.Omega.{arith}
 use lib.ListN.{length}
 use borrow.Author.Needs.{needs}
 use Rattle.history.specs.Records.{optionalAs}
-use Rattle.presentation.specs.Gate.{leaves, memberAs, holdAs}
+use Rattle.presentation.specs.Gate.{leaves, memberAs}
 use Rattle.presentation.proofs.Arrays.{arr-len}
 use Rattle.presentation.proofs.Packing.{Packed, packed-start, packed-end, packed-moves, packed-stays}
 use Rattle.presentation.proofs.GateLaws.{hold-length, hold-kept}
