@@ -1,79 +1,32 @@
 -- Laws of the gate: the held members as a list, and the words of the lent list.
 use Prim.Native.Nat.{ℕ, zero, suc, _+_, _*_, _≤_, _<_, min}
 use mathlib.Core.Path.{_≡_, refl, sym, ap, _∙_}
-use mathlib.Core.Bool.{Bool, true, false, not, cond}
+use mathlib.Core.Bool.{Bool, true, false, cond}
 use mathlib.Core.List.{List, [], _∷_, _++_, map, map-append, append-assoc, append-nil}
 use mathlib.Core.Option.{Option, some, none}
 use native.Mathlib.Numerals.{add-one}
 use native.Mathlib.Omega.{arith}
 use lib.IntN.{ℤ, pos}
 use lib.Dec.{isEq}
-use lib.ListN.{length, take, drop, getD, set, length-append, length-map, length-take, length-drop, length-set, List·getD-map}
-use lib.Seq.{drop-cons, drop-drop, drop-append-add, drop-set-lt, take-suc, take-at, take-suc-set, getD-take, getD-drop, paste}
+use lib.ListN.{length, take, drop, getD, set, length-append, length-map, length-take, length-drop, List·getD-map}
+use lib.Seq.{drop-cons, drop-drop, drop-append-add, take-suc, take-at, take-suc-set, getD-take, paste}
 use Rattle.group_order.specs.Lists.{keep}
 use Rattle.group_order.specs.Guid.{Guid, compareGuid, sameGuid}
 use Rattle.group_order.specs.Answers.{orderAs}
 use Rattle.group_order.specs.declared.guid.GuidOrder.{GuidOrder}
-use Rattle.group_order.proofs.Lists.{keep-append, keep-last, keep-map, length-keep, none-some}
+use Rattle.group_order.proofs.Lists.{keep-last, keep-map, length-keep, none-some}
 use Rattle.presentation.specs.Gate.{Kind, isSample, isLifecycle, isEnd, Item, ends, changes, memberMark, firstMark, wordsOf, words, written, memberAs, holdAs}
 use Rattle.presentation.specs.declared.gate.Member.{Member}
 use Rattle.presentation.specs.declared.gate.CoherentHold.{CoherentHold}
+use Rattle.presentation.proofs.Arrays.{keep-more}
 
 -- ---- lists
-
-pub arr-len : {X Y : Type 0} (f : X → Y) (l : List X) (n : ℕ) → length (map f l) ≡ n → length l ≡ n
-arr-len f l n e = sym (length-map l f) ∙ e
 
 module _ {A : Type 0} where
   take-taken : (n : ℕ) (l : List A) → take (length (take n l)) l ≡ take n l
   take-taken zero l = refl
   take-taken (suc n) [] = refl
   take-taken (suc n) (a ∷ l) = ap (λ x. a ∷ x) (take-taken n l)
-
-  pub keep-more : (p : A → Bool) (l : List A) (a : A) → p a ≡ true → keep p (l ++ (a ∷ [])) ≡ keep p l ++ (a ∷ [])
-  unfolding keep
-  keep-more p l a h = keep-append p l (a ∷ []) ∙ rw h
-
--- those before i that fail the test stand first in m; what is behind i is as in l
-pub record Sifted {A : Type 0} (p : A → Bool) (i k : ℕ) (l m : List A) : Type 0 where
-  pub kept : take k m ≡ keep (λ x. not (p x)) (take i l)
-  pub rest : drop i m ≡ drop i l
-  pub fewer : k ≤ i
-  pub long : length m ≡ length l
-
-module _ {A : Type 0} (p : A → Bool) where
-  pub sifted-none : (l : List A) → Sifted p 0 0 l l
-  unfolding keep
-  sifted-none l = record { kept = refl; rest = refl; fewer = omega arith; long = refl }
-
-  module _ (i k : ℕ) (l m : List A) (d : A) (s : Sifted p i k l m) (h : i < length l) where
-    same-at : getD m i d ≡ getD l i d
-    same-at =
-        let first : (o : List A) → getD (drop i o) 0 d ≡ getD o i d = λ o. getD-drop i o 0 d ∙ ap (λ x. getD o x d) (omega arith) in
-        sym (first m) ∙ ap (λ x. getD x 0 d) (s .rest) ∙ first l
-
-    behind : drop (i + 1) m ≡ drop (i + 1) l
-    behind = sym (drop-drop 1 i m) ∙ ap (drop 1) (s .rest) ∙ drop-drop 1 i l
-
-    taken : take (i + 1) l ≡ take i l ++ (getD m i d ∷ [])
-    taken = rw (add-one i, same-at) (take-suc l i d h)
-
-    pub sifted-out : p (getD m i d) ≡ true → Sifted p (i + 1) k l m
-    sifted-out e = record {
-      kept = s .kept ∙ sym (ap (keep (λ x. not (p x))) taken ∙ keep-last (λ x. not (p x)) (take i l) (getD m i d) (ap not e));
-      rest = behind;
-      fewer = omega (arith, s .fewer);
-      long = s .long;
-    }
-
-    pub sifted-kept : p (getD m i d) ≡ false → Sifted p (i + 1) (k + 1) l (set m k (getD m i d))
-    sifted-kept e = record {
-      kept = ap (λ n. take n (set m k (getD m i d))) (add-one k) ∙ take-suc-set m k (getD m i d) (omega (arith, s .fewer, s .long)) ∙ ap (λ x. x ++ (getD m i d ∷ [])) (s .kept)
-          ∙ sym (ap (keep (λ x. not (p x))) taken ∙ keep-more (λ x. not (p x)) (take i l) (getD m i d) (ap not e));
-      rest = drop-set-lt (i + 1) m k (getD m i d) (omega (arith, s .fewer)) ∙ behind;
-      fewer = omega (arith, s .fewer);
-      long = length-set m k (getD m i d) ∙ s .long;
-    }
 
 -- ---- the held members
 
@@ -88,6 +41,9 @@ module _ (h : CoherentHold) where
 
   pub hold-length : length (h .held) ≡ 64 → length (holdAs h) ≡ min (h .len) 64
   hold-length e = held-length ∙ length-take (h .len) (h .held) ∙ ap (min (h .len)) e
+
+  pub hold-few : length (h .held) ≡ 64 → length (holdAs h) ≤ 64
+  hold-few e = omega (arith, hold-length e)
 
   pub hold-is : holdAs h ≡ map (λ m. memberAs m) (take (length (holdAs h)) (h .held))
   hold-is = unfold holdAs in sym (ap (λ n. map (λ m. memberAs m) (take n (h .held))) held-length ∙ ap (map (λ m. memberAs m)) (take-taken (h .len) (h .held)))
@@ -113,13 +69,13 @@ module _ (h : CoherentHold) where
       ap (λ x. map (λ m. memberAs m) x) (ap (λ n. take n (set (h .held) (h .len) m)) (add-one (h .len)) ∙ take-suc-set (h .held) (h .len) m (omega arith))
       ∙ map-append (λ m. memberAs m) (take (h .len) (h .held)) (m ∷ [])
 
-  -- those that are not taken out
-  pub hold-kept : (p : Item → Bool) (k : ℕ) (l : List Member) → Sifted (λ m. p (memberAs m)) (length (holdAs h)) k (h .held) l
-      → holdAs (record { len = k; held = l }) ≡ keep (λ x. not (p x)) (holdAs h)
+  -- those that pass, packed to the front
+  pub hold-kept : (p : Item → Bool) (n k : ℕ) (l : List Member) → n ≡ length (holdAs h) → take k l ≡ keep (λ m. p (memberAs m)) (take n (h .held))
+      → holdAs (record { len = k; held = l }) ≡ keep (λ x. p x) (holdAs h)
   unfolding holdAs
-  hold-kept p k l s =
-      ap (map (λ m. memberAs m)) (s .kept)
-      ∙ sym (ap (keep (λ x. not (p x))) hold-is ∙ keep-map (λ x. not (p x)) (λ m. memberAs m) (take (length (holdAs h)) (h .held)))
+  hold-kept p n k l e f =
+      ap (map (λ m. memberAs m)) (f ∙ ap (λ j. keep (λ m. p (memberAs m)) (take j (h .held))) e)
+      ∙ sym (ap (keep (λ x. p x)) hold-is ∙ keep-map (λ x. p x) (λ m. memberAs m) (take (length (holdAs h)) (h .held)))
 
 -- ---- writers and members
 

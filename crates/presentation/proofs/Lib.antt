@@ -1,5 +1,5 @@
+pub mod Arrays
 pub mod Packing
-pub mod Shifting
 pub mod GateLaws
 pub mod GateCalls
 pub mod TbfLaws

@@ -1,21 +1,21 @@
 -- Laws of the filter hold.
 use Prim.Native.Nat.{ℕ, zero, suc, _+_, _*_, _/_, _%_, _≤_, _<_, min}
 use mathlib.Core.Path.{_≡_, refl, sym, ap, _∙_}
-use mathlib.Core.Bool.{Bool, true, false, _&&_, _||_, not, cond}
-use mathlib.Core.List.{List, [], _∷_, _++_, append-assoc, map}
+use mathlib.Core.Bool.{true, false, _&&_, not}
+use mathlib.Core.List.{List, [], _∷_, _++_, append-assoc}
 use native.Mathlib.Numerals.{add-one}
 use native.Mathlib.Omega.{arith}
-use borrow.Author.Tests.{ltb-true, lt-leb, eq-eqb, ne-eqb}
+use borrow.Author.Tests.{ltb-true, lt-leb, ne-eqb}
 use lib.Dec.{T, leb, eqb}
 use lib.IntN.{ℤ, pos, negsuc, natAbs}
 use lib.Signed.{ltZ, nonNeg}
-use lib.ListN.{length, take, drop, set, getD, length-append, length-map, length-take}
-use lib.Seq.{take-suc, drop-cons, set-at, drop-length, getD-take, length-take-le}
+use lib.ListN.{length, take, drop, set, getD, length-append, length-take}
+use lib.Seq.{take-suc, take-set-lt, drop-cons, set-at, getD-take, length-take-le}
 use mir.Syntax.{w32}
 use mir.Val.{SFits}
-use Rattle.coherent_set.specs.Answer.{eqZ}
 use Rattle.group_order.specs.Lists.{keep, any}
-use Rattle.group_order.proofs.Lists.{keep-fewer, not-both}
+use Rattle.group_order.proofs.Lists.{keep-fewer, keep-none, length-split, not-both}
+use Rattle.history.proofs.Places.{Shifted, shifted-more, shifted-put}
 use Rattle.presentation.specs.declared.tbf.Held.{Held}
 use Rattle.presentation.specs.declared.tbf.TbfHold.{TbfHold}
 use Rattle.presentation.specs.Tbf.{fromZero, timeOf, words, written, isOf, supersede, holdAs}
@@ -23,10 +23,6 @@ use Rattle.presentation.specs.Tbf.{fromZero, timeOf, words, written, isO
 -- what the code reads past an array's end
 abbrev pub free : Held
 free = record { instance = 0; item = 0; due = record { sec = pos 0; nanosec = 0 } }
-
--- the array's length, from what fits it
-pub arr-len : {X Y : Type 0} (f : X → Y) (l : List X) (n : ℕ) → length (map f l) ≡ n → length l ≡ n
-arr-len f l n e = sym (length-map l f) ∙ e
 
 -- ---- times
 
@@ -52,21 +48,7 @@ time-split s r total h e =
     let m : total % 1000000000 ≡ r = omega arith in
     rw (q, m)
 
-pub eqZ-same : (a b : ℤ) → a ≡ b → eqZ a b ≡ true
-eqZ-same (pos m) b e = rw (← e) (eq-eqb m m refl)
-eqZ-same (negsuc m) b e = rw (← e) (eq-eqb m m refl)
-
--- ---- the first n of a list, from a place on
-
-pub from-place : (l : List Held) (n i : ℕ) → i < n → n ≤ length l → drop i (take n l) ≡ getD l i free ∷ drop (i + 1) (take n l)
-from-place l n i h k =
-    let e : length (take n l) ≡ n = length-take-le n l k in
-    drop-cons (take n l) i free (omega arith)
-    ∙ ap (λ x. x ∷ drop (suc i) (take n l)) (getD-take n l i free h)
-    ∙ ap (λ j. getD l i free ∷ drop j (take n l)) (sym (add-one i))
-
-pub none-behind : (l : List Held) (n : ℕ) → n ≤ length l → drop n (take n l) ≡ []
-none-behind l n k = ap (λ j. drop j (take n l)) (sym (length-take-le n l k)) ∙ drop-length (take n l)
+-- ---- the first n of an array
 
 -- nothing is taken exactly where n is 0
 pub take-none : (n : ℕ) (l : List Held) → 0 < length l → eqb n 0 ≡ eqb (length (take n l)) 0
@@ -74,20 +56,21 @@ take-none zero l h = refl
 take-none (suc n) [] h = absurd (omega arith)
 take-none (suc n) (x ∷ l) h = ne-eqb (suc n) 0 (λ e. omega arith) ∙ sym (ne-eqb (suc (length (take n l))) 0 (λ e. omega arith))
 
+-- room for one more among them: those from place i on stand one place further
+module _ {A : Type 0} (l : List A) (n : ℕ) (h : n < length l) (m : List A) where
+  pub shifted-turn : (i j : ℕ) (d : A) → i ≡ suc j → i ≤ n → Shifted (take n l) (take (n + 1) m) i → Shifted (take n l) (take (n + 1) (set m (j + 1) (getD m j d))) j
+  shifted-turn i j d e b s =
+      rw (add-one j, take-set-lt (n + 1) m (suc j) (getD m j d) (omega arith), ← getD-take (n + 1) m j d (omega arith))
+      (shifted-more (take n l) (take (n + 1) m) j d (rw e at s) (omega (arith, length-take-le n l (omega arith))))
+
+  pub shifted-end : (i : ℕ) (x : A) → i ≤ n → Shifted (take n l) (take (n + 1) m) i → take (n + 1) (set m i x) ≡ take i (take n l) ++ (x ∷ drop i (take n l))
+  shifted-end i x b s = take-set-lt (n + 1) m i x (omega arith) ∙ shifted-put (take n l) (take (n + 1) m) i x s (omega (arith, length-take-le n l (omega arith)))
+
 -- ---- what is held
 
 pub take-few : (h : TbfHold) → length (h .held) ≡ 32 → length (holdAs h) ≤ 32
 unfolding holdAs
 take-few h e = omega (arith, length-take (h .len) (h .held))
-
-none-leaves : (p : Held → Bool) (l : List Held) → any p l ≡ false → keep (λ x. not (p x)) l ≡ l
-unfolding any keep
-none-leaves p [] h = refl
-none-leaves p (x ∷ l) h =
-    (elim (p x) as (λ b. b || any p l ≡ false → cond (not b) (x ∷ keep (λ x. not (p x)) l) (keep (λ x. not (p x)) l) ≡ x ∷ l) [
-      | true ↦ λ e. not-both true refl e
-      | false ↦ λ e. ap (λ m. x ∷ m) (none-leaves p l e)
-    ]) h
 
 -- a new instance finds all 32 places taken exactly where the others take them all
 pub full-same : (k : ℕ) (l : List Held) → length l ≤ 32 → not (any (λ x. isOf k x) l) && leb 32 (length l) ≡ leb 32 (length (supersede k l))
@@ -95,7 +78,7 @@ unfolding supersede
 full-same k l h =
     (elim (any (λ x. isOf k x) l) as (λ b. any (λ x. isOf k x) l ≡ b → not b && leb 32 (length l) ≡ leb 32 (length (keep (λ x. not (isOf k x)) l))) [
       | true ↦ λ e. sym (lt-leb 32 (length (keep (λ x. not (isOf k x)) l)) (omega (arith, keep-fewer (λ x. isOf k x) l e)))
-      | false ↦ λ e. ap (λ m. leb 32 (length m)) (sym (none-leaves (λ x. isOf k x) l e))
+      | false ↦ λ e. ap (λ n. leb 32 n) (let n : length l ≡ length (keep (λ x. not (isOf k x)) l) = omega (arith, length-split (λ x. isOf k x) l, ap length (keep-none (λ x. isOf k x) l e)) in n)
     ]) refl
 
 -- ---- the words of samples

@@ -2,7 +2,7 @@
 use Prim.Native.Nat.{ℕ, suc, _/_}
 use Prim.{Unit}
 use mathlib.Core.Path.{_≡_, refl}
-use mathlib.Core.Bool.{Bool, true, false, _&&_, _||_, not, cond}
+use mathlib.Core.Bool.{Bool, true, false, _&&_, not, cond}
 use mathlib.Core.List.{List, [], _∷_, _++_}
 use native.Mathlib.Omega.{arith}
 use borrow.Author.Tests.{ltb-true, ltb-false, lt-ltb, eqb-false}
@@ -10,7 +10,7 @@ use lib.Dec.{ltb, leb}
 use lib.ListN.{length, take, drop}
 use Rattle.coherent_set.specs.Answer.{Answer}
 use Rattle.group_order.specs.Lists.{keep, all, any, indexOf}
-use Rattle.group_order.proofs.Lists.{and-true, and-left, and-right, all-imp, all-keep, not-both}
+use Rattle.group_order.proofs.Lists.{and-true, and-left, and-right, all-imp, all-keep, or-left, or-right}
 use Rattle.presentation.specs.declared.tbf.Time.{Time}
 use Rattle.presentation.specs.declared.tbf.Separation.{Separation}
 use Rattle.presentation.specs.declared.tbf.Held.{Held}
@@ -53,14 +53,6 @@ before-other : (h x : Held) → follows (h .instance) x ≡ false → isOf (h .i
 unfolding follows isOf
 before-other h x p q = lt-ltb (x .instance) (h .instance) (omega (arith, ltb-false (h .instance) (x .instance) p, eqb-false (h .instance) (x .instance) q))
 
-or-first : (a b : Bool) → a || b ≡ false → a ≡ false
-or-first true b e = e
-or-first false b e = refl
-
-or-second : (a b : Bool) → a || b ≡ false → b ≡ false
-or-second true b e = not-both true refl e
-or-second false b e = e
-
 pub rising-insert : (h : Held) (l : List Held) → rising l ≡ true → any (λ x. isOf (h .instance) x) l ≡ false → rising (insert h l) ≡ true
 unfolding rising any insert indexOf all
 rising-insert h [] r a = refl
@@ -72,8 +64,8 @@ rising-insert h (x ∷ l) r a =
       | true ↦ λ e. and-true _ _ (and-true _ _ e (all-imp _ (λ y. follows (h .instance) y) (λ y q. follows-more h x y e q) l f)) r
       | false ↦ λ e.
           and-true _ _
-          (all-insert (λ y. follows (x .instance) y) h l (before-other h x e (or-first _ _ a)) f)
-          (rising-insert h l t (or-second (isOf (h .instance) x) _ a))
+          (all-insert (λ y. follows (x .instance) y) h l (before-other h x e (or-left _ _ a)) f)
+          (rising-insert h l t (or-right (isOf (h .instance) x) _ a))
     ]) refl)
 
 -- none of the instance is left

@@ -9,7 +9,8 @@ use Rattle.group_order.specs.Lists.{keep, count}
 use Rattle.history.specs.Records.{optionalAs}
 use Rattle.history.proofs.Queries.{count-hit, count-miss}
 use Rattle.presentation.specs.Gate.{leaves, holdAs}
-use Rattle.presentation.proofs.GateLaws.{blank, arr-len, hold-length, hold-from}
+use Rattle.presentation.proofs.Arrays.{arr-len}
+use Rattle.presentation.proofs.GateLaws.{blank, hold-few, hold-from}
 use Rattle.presentation.proofs.gate.count_released.Statement.{statement}
 use Rattle.presentation.proofs.gate.count_released.Tie as tie
 
@@ -19,11 +20,8 @@ Inv-loop writer but hold i₀ n₀ i n = (i ≤ length (holdAs hold)) × ((n ≤
 abbrev μ-loop : tie.MeasureT-loop
 μ-loop writer but hold i₀ n₀ i n = i
 
-long : (c : tie.Start Inv-loop μ-loop) → length (c .args .t1 .held) ≡ 64
-long c = search (needs, arr-len)
-
 within : (c : tie.Start Inv-loop μ-loop) → length (holdAs (c .args .t1)) ≤ 64
-within c = omega (arith, hold-length (c .args .t1) (long c))
+within c = let long : length (c .args .t1 .held) ≡ 64 = search (needs, arr-len) in hold-few (c .args .t1) long
 
 len-requires : tie.Need-len-requires Inv-loop μ-loop
 len-requires c κs = search needs

@@ -11,7 +11,8 @@ use borrow.Author.Needs.{needs}
 use Rattle.group_order.specs.Lists.{keep}
 use Rattle.history.specs.Records.{optionalAs}
 use Rattle.presentation.specs.Gate.{memberAs, leaves, firstMark, holdAs}
-use Rattle.presentation.proofs.GateLaws.{blank, arr-len, hold-length, hold-from, first-hit, first-miss}
+use Rattle.presentation.proofs.Arrays.{arr-len}
+use Rattle.presentation.proofs.GateLaws.{blank, hold-few, hold-from, first-hit, first-miss}
 use Rattle.presentation.proofs.gate.first_mark.Statement.{statement}
 use Rattle.presentation.proofs.gate.first_mark.Tie as tie
 
@@ -21,11 +22,8 @@ Inv-loop writer hold n i₀ i = (i ≤ n) × (firstMark (keep (λ h. leaves writ
 abbrev μ-loop : tie.MeasureT-loop
 μ-loop writer hold n i₀ i = n - i
 
-long : (c : tie.Start Inv-loop μ-loop) → length (c .args .t1 .held) ≡ 64
-long c = search (needs, arr-len)
-
 within : (c : tie.Start Inv-loop μ-loop) → length (holdAs (c .args .t1)) ≤ 64
-within c = omega (arith, hold-length (c .args .t1) (long c))
+within c = let long : length (c .args .t1 .held) ≡ 64 = search (needs, arr-len) in hold-few (c .args .t1) long
 
 len-requires : tie.Need-len-requires Inv-loop μ-loop
 len-requires c κs = search needs

@@ -1,39 +1,38 @@
--- `keep_others`: the members before i that stay are sifted into the first k places; the places from i on are as they were.
-use Prim.Native.Nat.{_≤_, _<_, _-_}
-use mathlib.Core.Path.{_≡_}
+-- `keep_others`: the loop packs the members that are not released to the front.
+use Prim.Native.Nat.{_-_}
+use mathlib.Core.Path.{_≡_, sym, ap, _∙_}
+use mathlib.Core.Bool.{not}
 use native.Mathlib.Omega.{arith}
 use lib.ListN.{length}
 use borrow.Author.Needs.{needs}
 use Rattle.history.specs.Records.{optionalAs}
-use Rattle.history.proofs.RowLaws.{passed, failed}
-use Rattle.presentation.specs.Gate.{leaves, memberAs, holdAs}
-use Rattle.presentation.proofs.GateLaws.{blank, arr-len, hold-length, hold-kept, Sifted, sifted-none, sifted-out, sifted-kept}
+use Rattle.presentation.specs.Gate.{leaves, memberAs}
+use Rattle.presentation.proofs.Arrays.{arr-len}
+use Rattle.presentation.proofs.Packing.{Packed, packed-start, packed-end, packed-moves, packed-stays}
+use Rattle.presentation.proofs.GateLaws.{hold-length, hold-kept}
 use Rattle.presentation.proofs.gate.keep_others.Statement.{statement}
 use Rattle.presentation.proofs.gate.keep_others.Tie as tie
 
 abbrev Inv-loop : tie.InvT-loop
-Inv-loop writer but n held₀ i₀ k₀ held i k = (i ≤ n) × Sifted (λ m. leaves writer (optionalAs but) (memberAs m)) i k held₀ held
+Inv-loop writer but n held₀ i₀ k₀ held i k = Packed (λ m. not (leaves writer (optionalAs but) (memberAs m))) held₀ n held k i × (length held₀ ≡ 64)
 
 abbrev μ-loop : tie.MeasureT-loop
 μ-loop writer but n held₀ i₀ k₀ held i k = n - i
-
-long : (c : tie.Start Inv-loop μ-loop) → length (c .args .hold .held) ≡ 64
-long c = search (needs, arr-len)
-
-within : (c : tie.Start Inv-loop μ-loop) → length (holdAs (c .args .hold)) ≤ 64
-within c = omega (arith, hold-length (c .args .hold) (long c))
 
 len-requires : tie.Need-len-requires Inv-loop μ-loop
 len-requires c κs = search needs
 
 loop-holds : tie.Need-loop-holds Inv-loop μ-loop
-loop-holds c = (omega arith, sifted-none _ _)
+loop-holds c =
+    let h = c .before .before .args .hold in
+    let long : length (h .held) ≡ 64 = search (needs, arr-len) in
+    (packed-start _ _ _ (omega (arith, hold-length h long, c .before .len .ensures)), long)
 
 mul-m : tie.Need-mul-m Inv-loop μ-loop
-mul-m c = omega (arith, within (c .before .before .before .before), c .before .before .before .len .ensures)
+mul-m c = search needs
 
 array-copy-out-m : tie.Need-array-copy-out-m Inv-loop μ-loop
-array-copy-out-m c = omega (arith, within (c .before .before .before .before), c .before .before .before .len .ensures)
+array-copy-out-m c = search needs
 
 add-i : tie.Need-add-i Inv-loop μ-loop
 add-i c = search needs
@@ -41,50 +40,37 @@ add-i c = search needs
 is-released-requires : tie.Need-is-released-requires Inv-loop μ-loop
 is-released-requires c κs = search needs
 
--- a member that stays has a place
-room : (c : tie.Then1 Inv-loop μ-loop) → c .before .before .before .before .loop .k < 64
-room c =
-    let s = c .before .before .before .before in
-    omega (arith, within (s .before .before .before), s .before .before .len .ensures, s .loop .inv .1 .fewer)
-
 mul-held : tie.Need-mul-held Inv-loop μ-loop
-mul-held c = omega (arith, room c)
+mul-held c = search needs
 
 array-set-from-held : tie.Need-array-set-from-held Inv-loop μ-loop
-array-set-from-held c = omega (arith, room c)
+array-set-from-held c = search needs
 
 add-k : tie.Need-add-k Inv-loop μ-loop
-add-k c = omega (arith, room c)
+add-k c = search needs
 
 loop-less : tie.Need-loop-less Inv-loop μ-loop
 loop-less c = search needs
 
 loop-again : tie.Need-loop-again Inv-loop μ-loop
 loop-again c =
-    let s = c .before .before .before .before in
-    let a = s .before .before .before .args in
-    let w = s .loop in
-    let h : w .i < length (a .hold .held) = omega (arith, long (s .before .before .before), within (s .before .before .before), s .before .before .len .ensures) in
-    (omega arith, sifted-kept (λ m. leaves (a .writer) (optionalAs (a .but)) (memberAs m)) (w .i) (w .k) (a .hold .held) (w .held) blank (w .inv .1) h (failed (c .before .is-released .ensures) (c .if1 .taken)))
+    let w = c .before .before .before .before .loop in
+    (packed-moves _ _ _ _ _ _ (w .inv .0) (omega arith) _ (ap not (sym (c .before .is-released .ensures)) ∙ c .if1 .taken), w .inv .1)
 
 loop-less-2 : tie.Need-loop-less-2 Inv-loop μ-loop
 loop-less-2 c = search needs
 
 loop-again-2 : tie.Need-loop-again-2 Inv-loop μ-loop
 loop-again-2 c =
-    let s = c .before .before .before .before in
-    let a = s .before .before .before .args in
-    let w = s .loop in
-    let h : w .i < length (a .hold .held) = omega (arith, long (s .before .before .before), within (s .before .before .before), s .before .before .len .ensures) in
-    (omega arith, sifted-out (λ m. leaves (a .writer) (optionalAs (a .but)) (memberAs m)) (w .i) (w .k) (a .hold .held) (w .held) blank (w .inv .1) h (passed (c .before .is-released .ensures) (c .if1 .left)))
+    let w = c .before .before .before .before .loop in
+    (packed-stays _ _ _ _ _ _ (w .inv .0) (omega arith) _ (ap not (sym (c .before .is-released .ensures)) ∙ c .if1 .left), w .inv .1)
 
 returns : tie.Need-returns Inv-loop μ-loop
 returns c =
     let s = c .before in
     let a = s .before .before .before .args in
-    let w = s .loop in
-    let e : w .i ≡ length (holdAs (a .hold)) = omega (arith, s .before .before .len .ensures) in
-    hold-kept (a .hold) (λ h. leaves (a .writer) (optionalAs (a .but)) h) (w .k) (w .held) (rw e at (w .inv .1))
+    hold-kept (a .hold) (λ h. not (leaves (a .writer) (optionalAs (a .but)) h)) _ _ _ (s .before .before .len .ensures)
+    (packed-end _ _ _ _ _ _ (s .loop .inv .0) (omega arith))
 
 pub keep-others-spec : {M : Type 1} → statement M
 keep-others-spec =

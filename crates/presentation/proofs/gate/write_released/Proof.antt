@@ -8,7 +8,8 @@ use borrow.Author.Needs.{needs}
 use Rattle.group_order.specs.Lists.{count}
 use Rattle.history.specs.Records.{optionalAs}
 use Rattle.presentation.specs.Gate.{wordsOf, leaves, memberAs, holdAs}
-use Rattle.presentation.proofs.GateLaws.{blank, writing-fewer, arr-len, hold-length, hold-upto, Writing, writing-none, writing-same, writing-more, writing-long}
+use Rattle.presentation.proofs.Arrays.{arr-len}
+use Rattle.presentation.proofs.GateLaws.{blank, writing-fewer, hold-few, hold-upto, Writing, writing-none, writing-same, writing-more, writing-long}
 use Rattle.presentation.proofs.gate.write_released.Statement.{statement}
 use Rattle.presentation.proofs.gate.write_released.Tie as tie
 
@@ -18,11 +19,8 @@ Inv-loop writer but out₀ hold n i₀ k₀ out i k = (i ≤ n) × Writing (λ h
 abbrev μ-loop : tie.MeasureT-loop
 μ-loop writer but out₀ hold n i₀ k₀ out i k = n - i
 
-long : (c : tie.Start Inv-loop μ-loop) → length (c .args .t1 .held) ≡ 64
-long c = search (needs, arr-len)
-
 within : (c : tie.Start Inv-loop μ-loop) → length (holdAs (c .args .t1)) ≤ 64
-within c = omega (arith, hold-length (c .args .t1) (long c))
+within c = let long : length (c .args .t1 .held) ≡ 64 = search (needs, arr-len) in hold-few (c .args .t1) long
 
 len-requires : tie.Need-len-requires Inv-loop μ-loop
 len-requires c κs = search needs

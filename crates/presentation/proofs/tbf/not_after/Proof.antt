@@ -5,9 +5,10 @@ use borrow.Author.Needs.{needs}
 use lib.Signed.{ltZ}
 use mir.Syntax.{w32}
 use mir.Val.{toZ, ofZ}
+use Rattle.coherent_set.specs.Answer.{eqZ}
 use Rattle.coherent_set.proofs.Whole.{other-eqZ}
+use Rattle.group_order.proofs.Minima.{eqZ-refl}
 use Rattle.presentation.specs.Tbf.{notAfter}
-use Rattle.presentation.proofs.TbfLaws.{eqZ-same}
 use Rattle.presentation.proofs.tbf.not_after.Statement.{statement}
 use Rattle.presentation.proofs.tbf.not_after.Tie as tie
 
@@ -28,7 +29,7 @@ returns-2 c =
     let g : toZ w32 (ofZ w32 (a .b .sec)) ≡ a .b .sec = search needs in
     let e : ltZ (a .a .sec) (a .b .sec) ≡ false = rw (f, g) at (c .before .before .before .before .before .before .before .if1 .left) in
     let q : a .a .sec ≡ a .b .sec = sym f ∙ ap (λ n. toZ w32 n) (c .before .before .if2 .taken) ∙ g in
-    rw (e, eqZ-same (a .a .sec) (a .b .sec) q)
+    rw (e, ap (λ z. eqZ z (a .b .sec)) q ∙ eqZ-refl (a .b .sec))
 
 returns-3 : tie.Need-returns-3
 unfolding notAfter

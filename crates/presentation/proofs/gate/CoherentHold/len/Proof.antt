@@ -3,7 +3,8 @@ use mathlib.Core.Path.{_≡_}
 use native.Mathlib.Omega.{arith}
 use lib.ListN.{length}
 use borrow.Author.Needs.{needs}
-use Rattle.presentation.proofs.GateLaws.{arr-len, hold-length}
+use Rattle.presentation.proofs.Arrays.{arr-len}
+use Rattle.presentation.proofs.GateLaws.{hold-length}
 use Rattle.presentation.proofs.gate.CoherentHold.len.Statement.{statement}
 use Rattle.presentation.proofs.gate.CoherentHold.len.Tie as tie
 

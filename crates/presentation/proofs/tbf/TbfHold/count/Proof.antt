@@ -5,7 +5,7 @@ use lib.ListN.{length, take}
 use lib.Seq.{length-take-le, take-all}
 use borrow.Author.Needs.{needs}
 use Rattle.presentation.specs.Tbf.{holdAs}
-use Rattle.presentation.proofs.TbfLaws.{arr-len}
+use Rattle.presentation.proofs.Arrays.{arr-len}
 use Rattle.presentation.proofs.tbf.TbfHold.count.Statement.{statement}
 use Rattle.presentation.proofs.tbf.TbfHold.count.Tie as tie
 

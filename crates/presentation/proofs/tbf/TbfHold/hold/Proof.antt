@@ -8,7 +8,8 @@ use lib.ListN.{length}
 use borrow.Author.Needs.{needs}
 use Rattle.coherent_set.specs.Answer.{answered}
 use Rattle.presentation.specs.Tbf.{holdAs, holdingAs, holdAnswerAs, hold, insert, supersede, timeAfter}
-use Rattle.presentation.proofs.TbfLaws.{arr-len, take-few, full-same}
+use Rattle.presentation.proofs.Arrays.{arr-len}
+use Rattle.presentation.proofs.TbfLaws.{take-few, full-same}
 use Rattle.presentation.proofs.tbf.TbfHold.hold.Statement.{statement}
 use Rattle.presentation.proofs.tbf.TbfHold.hold.Tie as tie
 

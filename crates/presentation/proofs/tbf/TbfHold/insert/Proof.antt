@@ -5,14 +5,14 @@ use mathlib.Core.List.{_∷_, _++_}
 use native.Mathlib.Omega.{arith}
 use borrow.Author.Needs.{needs}
 use lib.ListN.{take, drop, set}
-use Rattle.history.proofs.Places.{index-le}
+use Rattle.history.proofs.Places.{Shifted, shifted-none, index-le}
 use Rattle.presentation.specs.Tbf.{holdAs, insert, follows}
-use Rattle.presentation.proofs.Shifting.{Shifted, shifted-start, shifted-turn, shifted-end}
+use Rattle.presentation.proofs.TbfLaws.{shifted-turn, shifted-end}
 use Rattle.presentation.proofs.tbf.TbfHold.insert.Statement.{statement}
 use Rattle.presentation.proofs.tbf.TbfHold.insert.Tie as tie
 
 abbrev Inv-loop : tie.InvT-loop
-Inv-loop n sample p held₀ i₀ held i = Shifted held₀ n held i × (p ≤ i)
+Inv-loop n sample p held₀ i₀ held i = Shifted (take n held₀) (take (n + 1) held) i × (p ≤ i) × (i ≤ n)
 
 abbrev μ-loop : tie.MeasureT-loop
 μ-loop n sample p held₀ i₀ held i = i
@@ -24,7 +24,7 @@ loop-holds : tie.Need-loop-holds Inv-loop μ-loop
 loop-holds c =
     let a = c .before .before .args in
     let k = c .before .before .pre in
-    (shifted-start _ _ (omega arith), omega (arith, index-le (λ x. follows (a .sample .instance) x) (holdAs (a .self))))
+    (shifted-none _ _ (omega arith), omega (arith, index-le (λ x. follows (a .sample .instance) x) (holdAs (a .self))), omega arith)
 
 sub-i : tie.Need-sub-i Inv-loop μ-loop
 sub-i c = search needs
@@ -50,8 +50,9 @@ loop-less c = search needs
 loop-again : tie.Need-loop-again Inv-loop μ-loop
 loop-again c =
     let s = c .before .before .loop in
+    let k = c .before .before .before .before .before .pre in
     let e : s .i ≡ suc (s .i - 1) = omega arith in
-    (shifted-turn _ _ _ _ _ _ e (s .inv .0), omega arith)
+    (shifted-turn _ _ (omega arith) _ _ _ _ e (s .inv .2) (s .inv .0), omega arith, omega arith)
 
 mul-held-2 : tie.Need-mul-held-2 Inv-loop μ-loop
 mul-held-2 c = search needs
@@ -66,13 +67,13 @@ returns : tie.Need-returns Inv-loop μ-loop
 unfolding holdAs insert
 returns c =
     let a = c .before .before .before .before .args in
-    let k = c .before .before .before .before .pre .0 in
+    let k = c .before .before .before .before .pre in
     let p = c .before .before .before .place in
     let s = c .before .loop in
     let e : s .i ≡ p .result = omega arith in
     ap (λ j. take (a .n + 1) (set (s .held) j (a .sample))) (sym e)
-    ∙ shifted-end _ _ (s .held) (s .i) (a .sample) (s .inv .0)
-    ∙ ap (λ l. take (s .i) l ++ (a .sample ∷ drop (s .i) l)) (sym (k .held))
+    ∙ shifted-end _ _ (omega arith) (s .held) (s .i) (a .sample) (s .inv .2) (s .inv .0)
+    ∙ ap (λ l. take (s .i) l ++ (a .sample ∷ drop (s .i) l)) (sym (k .0 .held))
     ∙ ap (λ j. take j (holdAs (a .self)) ++ (a .sample ∷ drop j (holdAs (a .self)))) (e ∙ p .ensures)
 
 pub insert-spec : {M : Type 1} → statement M

@@ -4,7 +4,8 @@ use native.Mathlib.Omega.{arith}
 use lib.ListN.{length}
 use borrow.Author.Needs.{needs}
 use Rattle.presentation.specs.Tbf.{holdAs}
-use Rattle.presentation.proofs.TbfLaws.{arr-len, take-none}
+use Rattle.presentation.proofs.Arrays.{arr-len}
+use Rattle.presentation.proofs.TbfLaws.{take-none}
 use Rattle.presentation.proofs.tbf.TbfHold.is_empty.Statement.{statement}
 use Rattle.presentation.proofs.tbf.TbfHold.is_empty.Tie as tie
 

@@ -1,25 +1,29 @@
--- `tbf::TbfHold::place` meets its contract: none before i follows, so the place counts on from i.
-use lib.ListN.{take, drop}
+-- `tbf::TbfHold::place` meets its contract: none of the first i follows.
+use lib.ListN.{length, take}
+use lib.Seq.{getD-take, length-take-le}
 use borrow.Author.Tests.{lt-ltb, le-ltb}
 use mathlib.Core.Path.{_≡_, sym, ap, _∙_}
 use native.Mathlib.Omega.{arith}
-use Prim.Native.Nat.{_-_, _+_, _≤_}
+use Prim.Native.Nat.{_-_, _≤_}
 use borrow.Author.Needs.{needs}
-use Rattle.history.proofs.Queries.{index-hit, index-miss}
+use Rattle.history.proofs.Places.{Missed, missed-none, missed-more, missed-hit, missed-all}
 use Rattle.group_order.specs.Lists.{indexOf}
-use Rattle.presentation.proofs.TbfLaws.{from-place, none-behind}
 use Rattle.presentation.specs.Tbf.{follows}
+use Rattle.presentation.proofs.TbfLaws.{free}
 use Rattle.presentation.proofs.tbf.TbfHold.place.Statement.{statement}
 use Rattle.presentation.proofs.tbf.TbfHold.place.Tie as tie
 
 abbrev Inv-loop : tie.InvT-loop
-Inv-loop n instance held i₀ i = (i ≤ n) × (indexOf (λ x. follows instance x) (take n held) ≡ i + indexOf (λ x. follows instance x) (drop i (take n held)))
+Inv-loop n instance held i₀ i = (i ≤ n) × Missed (λ x. follows instance x) (take n held) i × (length (take n held) ≡ n)
 
 abbrev μ-loop : tie.MeasureT-loop
 μ-loop n instance held i₀ i = n - i
 
 loop-holds : tie.Need-loop-holds Inv-loop μ-loop
-loop-holds c = search needs
+loop-holds c =
+    let a = c .before .args in
+    let k = c .before .pre in
+    (omega arith, missed-none (λ x. follows (a .instance) x) (take (a .n) (a .self .held)), length-take-le _ _ (omega arith))
 
 mul-x : tie.Need-mul-x Inv-loop μ-loop
 mul-x c = search needs
@@ -32,9 +36,9 @@ unfolding follows
 returns c =
     let s = c .before .before .before .before in
     let a = s .before .before .args in
-    let k = s .before .before .pre in
-    let from = from-place (a .self .held) (a .n) (s .loop .i) (omega arith) (omega arith) in
-    sym (ap (λ l. indexOf (λ x. follows (a .instance) x) l) (k .held) ∙ s .loop .inv .1 ∙ rw (index-hit (λ x. follows (a .instance) x) _ _ _ from (lt-ltb _ _ (c .if1 .taken))) (omega arith))
+    let w = s .loop in
+    missed-hit (λ x. follows (a .instance) x) (take (a .n) (a .self .held)) (w .i) free (w .inv .1) (omega (arith, w .inv .2)) (rw (getD-take (a .n) (a .self .held) (w .i) free (omega arith)) (lt-ltb _ _ (c .if1 .taken)))
+    ∙ ap (λ l. indexOf (λ x. follows (a .instance) x) l) (sym (s .before .before .pre .held))
 
 add-i : tie.Need-add-i Inv-loop μ-loop
 add-i c = search needs
@@ -47,18 +51,16 @@ unfolding follows
 loop-again c =
     let s = c .before .before .before .before in
     let a = s .before .before .args in
-    let k = s .before .before .pre in
-    let from = from-place (a .self .held) (a .n) (s .loop .i) (omega arith) (omega arith) in
-    (omega arith, omega (arith, s .loop .inv .1, index-miss (λ x. follows (a .instance) x) _ _ _ from (le-ltb _ _ (c .if1 .left))))
+    let w = s .loop in
+    (omega arith, missed-more (λ x. follows (a .instance) x) (take (a .n) (a .self .held)) (w .i) free (w .inv .1) (omega (arith, w .inv .2)) (rw (getD-take (a .n) (a .self .held) (w .i) free (omega arith)) (le-ltb _ _ (c .if1 .left))), w .inv .2)
 
 returns-2 : tie.Need-returns-2 Inv-loop μ-loop
-unfolding indexOf
 returns-2 c =
     let a = c .before .before .before .args in
-    let k = c .before .before .before .pre in
-    let s = c .before .loop in
-    let e : s .i ≡ a .n = omega arith in
-    sym (ap (λ l. indexOf (λ x. follows (a .instance) x) l) (k .held) ∙ s .inv .1 ∙ rw (e, none-behind (a .self .held) (a .n) (omega arith)) (omega arith))
+    let w = c .before .loop in
+    let e : w .i ≡ length (take (a .n) (a .self .held)) = omega (arith, w .inv .2) in
+    sym (w .inv .2) ∙ missed-all (λ x. follows (a .instance) x) (take (a .n) (a .self .held)) (rw e at (w .inv .1))
+    ∙ ap (λ l. indexOf (λ x. follows (a .instance) x) l) (sym (c .before .before .before .pre .held))
 
 pub place-spec : {M : Type 1} → statement M
 place-spec =
