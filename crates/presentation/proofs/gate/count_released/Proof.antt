@@ -7,7 +7,7 @@ use lib.ListN.{length, drop}
 use borrow.Author.Needs.{needs}
 use Rattle.group_order.specs.Lists.{keep, count}
 use Rattle.history.specs.Records.{optionalAs}
-use Rattle.history.proofs.Queries.{count-hit, count-miss}
+use Rattle.group_view.proofs.Loops.{count-hit, count-miss}
 use Rattle.presentation.specs.Gate.{leaves, holdAs}
 use Rattle.presentation.proofs.Arrays.{arr-len}
 use Rattle.presentation.proofs.GateLaws.{blank, hold-few, hold-from}
