@@ -31,8 +31,9 @@ use Rattle.history.proofs.Table.{length-part}
 use Rattle.history.proofs.Queries.{index-le, any-keep, staged-at, staged-past}
 use Rattle.history.proofs.RowLaws.{length-rows, row-in}
 use Rattle.history.proofs.Spots.{goes-none, goes-then, goes-as}
+use Rattle.history.proofs.Asked.{staged-le}
 use Rattle.history.proofs.Appending.{live-stage, live-rows}
-use Rattle.history.proofs.StoreLaws.{few-groups, group-at, group-word, group-committed, groups-set, groups-set-before, writers-set-before, rows-in-set}
+use Rattle.history.proofs.StoreLaws.{head-word, head-groups, head-writers, head-counts, few-groups, group-at, group-word, group-committed, groups-set, groups-set-before, writers-set-before, rows-in-set}
 
 -- ---- what a turn asks
 
@@ -69,6 +70,30 @@ compacted n k r q p l a m h x y d e =
       head = e .head ∙ d .head;
       long = e .long;
     }
+
+-- which leaves what the store stands for
+pub goes-compacted : (i n r : ℕ) (l m o : List ℕ) (k : ℕ) → n ≤ 512 → Compacted n r l m → Goes i (λ w. w) (spot l n o k) (spot m r o k)
+unfolding needs wants
+goes-compacted i n r l m o k h x = record {
+  tied = λ from w y.
+      let d : Carries (from .list) (spot l n o k) w = y .carries in
+      record {
+        carries = record {
+          pending = x .pending ∙ d .pending;
+          held = x .held ∙ d .held;
+          counts = head-counts l m (x .head) ∙ d .counts;
+          written = d .written;
+          rest = d .rest;
+          same = d .same;
+        };
+        groups = head-groups l m (x .head) ∙ y .groups;
+        writers = head-writers l m (x .head) ∙ y .writers;
+        timeout = head-word l m (x .head) 3 (omega arith) ∙ y .timeout;
+      };
+  rows = omega (arith, x .rows, ap length (x .pending), staged-le (rowsIn n l), length-rows n l h);
+  room = rw (x .pending, x .held) (omega arith);
+  same = refl;
+}
 
 -- ---- a number is committed
 
