@@ -247,6 +247,10 @@ module _ (l : List ℕ) (n : ℕ) (g : Guid) (head : ℕ) (b : n ≤ 512) (is : 
         | some m ↦ λ e f. e ∙ ap some (eqb-true m k (and-right (ofGroup g (rowAt head l .entry)) _ (find-test (λ e. ofNumber m e) (staged 0 (rowsIn n l)) (rowAt head l .entry) (first-there m f a))))
       ]) refl is
 
+  -- the lowest number's first row
+  pub head-row : (m : ℕ) → m ≡ rowAt head l .entry .number → head < n → head ≡ headAt g (some m) (rowsIn n l)
+  head-row m q a = is ∙ ap (λ r. headAt g r (rowsIn n l)) (low-there a ∙ ap some (sym q))
+
   low-none : n ≤ head → low ≡ none
   unfolding isSome
   low-none a =
@@ -286,9 +290,8 @@ module _ (l : List ℕ) (n : ℕ) (g : Guid) (head : ℕ) (b : n ≤ 512) (is : 
       first-young : young turn (find (λ e. isHead turn m e) (staged 0 (rowsIn n l))) ≡ ltb (waited now (foundAt n head l)) (getD l 3 0)
       unfolding young isHead turnAt turnOf foundAt
       first-young =
-          let f : head ≡ headAt g (some m) (rowsIn n l) = is ∙ ap (λ r. headAt g r (rowsIn n l)) found in
           ap (λ x. ltb (waited now (find (λ e. ofGroup x e && eqb m (e .number)) (staged 0 (rowsIn n l)))) (getD l 3 0)) (sym d)
-          ∙ ap (λ x. ltb (waited now x) (getD l 3 0)) (first-there m f a)
+          ∙ ap (λ x. ltb (waited now x) (getD l 3 0)) (first-there m (head-row m q a) a)
           ∙ rw (lt-ltb head n a)
 
       round-head : (r z : Bool) → ready turn c m (staged 0 (rowsIn n l)) ≡ r → ltb (waited now (foundAt n head l)) (getD l 3 0) ≡ z

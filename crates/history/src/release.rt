@@ -197,7 +197,7 @@ fn head_step(
     if head < n {
         let number = number_at(store, head);
         let committed = committed_at(store, i);
-        if is_ready(store, view, n, i, group, committed, number) {
+        if is_ready(store, view, n, head, i, group, committed, number) {
             return went_on(commit(store, n, out, at, i, group, number, 0));
         }
         if !is_young(store, n, head, time) {
