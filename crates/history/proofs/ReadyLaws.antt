@@ -1,7 +1,7 @@
 -- When a number is ready: what a writer's marks say, walks over numbers and lists exchanged, and the loops over rows.
 use Prim.Native.Nat.{ℕ, zero, suc, _+_, _-_, _<_, _≤_, min}
 use mathlib.Core.Path.{_≡_, refl, sym, ap, _∙_}
-use mathlib.Core.Bool.{Bool, true, false, _&&_, _||_, not}
+use mathlib.Core.Bool.{Bool, true, false, _&&_, _||_, not, cond}
 use mathlib.Core.List.{List, [], _∷_}
 use mathlib.Core.Option.{Option, some, none}
 use native.Mathlib.Omega.{arith}
@@ -21,6 +21,7 @@ use Rattle.history.specs.Store.{Row, staged, writersOf}
 use Rattle.group_view.specs.View.{pairOf, pairsOf, pairsFor, PairAt}
 use Rattle.history.specs.Ready.{pairFrom, rowPast, writerFine, digestsFine, headFor, rowCopied, arrivedFor, rowArrived, arrived}
 use Rattle.group_view.specs.Keys.{keyAs}
+use Rattle.history.specs.Tied.{headAt}
 use Rattle.history.specs.Records.{MarksOf, Asks, fits}
 use Rattle.group_order.specs.declared.number.Marks.{Marks}
 use Rattle.group_view.specs.declared.view.Counted.{Counted}
@@ -130,6 +131,16 @@ module _ {A : Type 0} (p : A → Bool) where
   all-drop (suc i) [] h = refl
   all-drop (suc i) (a ∷ l) h = all-drop i l (and-right (p a) (all p l) h)
 
+  -- those before the first that passes a test pass another
+  all-from : (t : A → Bool) → ((a : A) → t a ≡ false → p a ≡ true) → (i : ℕ) (l : List A) → i ≤ indexOf t l → all p l ≡ all p (drop i l)
+  unfolding all indexOf
+  all-from t h zero l b = refl
+  all-from t h (suc i) [] b = refl
+  all-from t h (suc i) (a ∷ l) b = (elim (t a) as (λ x. t a ≡ x → suc i ≤ cond x 0 (suc (indexOf t l)) → p a && all p l ≡ all p (drop i l)) [
+    | true ↦ λ e c. absurd (omega (arith, c))
+    | false ↦ λ e c. rw (h a e, all-from t h i l (omega (arith, c)))
+  ]) refl b
+
   all-same : (q : A → Bool) → ((a : A) → p a ≡ q a) → (l : List A) → all p l ≡ all q l
   unfolding all
   all-same q h [] = refl
@@ -178,13 +189,14 @@ pub rows-fine : (g : Guid) (ds : List DigestRow) (ws : List Writer) → digestsF
 unfolding digestsFine writerFine
 rows-fine g ds ws = refl
 
-pub rows-arrived : (g : Guid) (n : ℕ) (ps : List Pair) (ws : List Writer) (rs : List Row)
-    → arrived g n ps ws (headFor g n (staged 0 rs)) ≡ all (λ r. rowArrived g n ps ws (headFor g n (staged 0 rs)) r) rs
+-- from the first entry of the number on
+pub rows-arrived : (g : Guid) (n : ℕ) (ps : List Pair) (ws : List Writer) (rs : List Row) (i : ℕ) → i ≡ headAt g (some n) rs
+    → arrived g n ps ws (headFor g n (staged 0 rs)) ≡ all (λ r. rowArrived g n ps ws (headFor g n (staged 0 rs)) r) (drop i rs)
 unfolding arrived rowArrived headFor
-rows-arrived g n ps ws rs =
+rows-arrived g n ps ws rs i e =
     let p : Entry ℕ → Bool = λ e. ofGroup g e && eqb n (e .number) in
     let q : Entry ℕ → Bool = λ e. arrivedFor g n (e .writer) ps ws (headFor g n (staged 0 rs)) in
-    kept-rows p q rs
+    kept-rows p q rs ∙ all-from _ (λ r. eqb (r .stage) 0 && p (r .entry)) (λ r h. rw h) i rs (omega (arith, e))
 
 -- a reader's entries of the number
 pub copy-any : (g : Guid) (n r : ℕ) (q : Query) (rs : List Row) → Asks q 0 (λ e. (ofGroup g e && eqb n (e .number)) && eqb r (e .reader))

@@ -31,8 +31,9 @@ use Rattle.group_view.proofs.Table.{length-part}
 use Rattle.history.proofs.Queries.{index-le, any-keep, staged-at, staged-past}
 use Rattle.history.proofs.RowLaws.{length-rows, row-in}
 use Rattle.history.proofs.Spots.{goes-none, goes-then, goes-as}
+use Rattle.history.proofs.Asked.{staged-le}
 use Rattle.history.proofs.Appending.{live-stage, live-rows}
-use Rattle.history.proofs.StoreLaws.{few-groups, group-at, group-word, group-committed, groups-set, groups-set-before, writers-set-before, rows-in-set}
+use Rattle.history.proofs.StoreLaws.{head-word, head-groups, head-writers, head-counts, few-groups, group-at, group-word, group-committed, groups-set, groups-set-before, writers-set-before, rows-in-set}
 
 -- ---- what a turn asks
 
@@ -69,6 +70,30 @@ compacted n k r q p l a m h x y d e =
       head = e .head ∙ d .head;
       long = e .long;
     }
+
+-- which leaves what the store stands for
+pub goes-compacted : (i n r : ℕ) (l m o : List ℕ) (k : ℕ) → n ≤ 512 → Compacted n r l m → Goes i (λ w. w) (spot l n o k) (spot m r o k)
+unfolding needs wants
+goes-compacted i n r l m o k h x = record {
+  tied = λ from w y.
+      let d : Carries (from .list) (spot l n o k) w = y .carries in
+      record {
+        carries = record {
+          pending = x .pending ∙ d .pending;
+          held = x .held ∙ d .held;
+          counts = head-counts l m (x .head) ∙ d .counts;
+          written = d .written;
+          rest = d .rest;
+          same = d .same;
+        };
+        groups = head-groups l m (x .head) ∙ y .groups;
+        writers = head-writers l m (x .head) ∙ y .writers;
+        timeout = head-word l m (x .head) 3 (omega arith) ∙ y .timeout;
+      };
+  rows = omega (arith, x .rows, ap length (x .pending), staged-le (rowsIn n l), length-rows n l h);
+  room = rw (x .pending, x .held) (omega arith);
+  same = refl;
+}
 
 -- ---- a number is committed
 
@@ -222,6 +247,10 @@ module _ (l : List ℕ) (n : ℕ) (g : Guid) (head : ℕ) (b : n ≤ 512) (is : 
         | some m ↦ λ e f. e ∙ ap some (eqb-true m k (and-right (ofGroup g (rowAt head l .entry)) _ (find-test (λ e. ofNumber m e) (staged 0 (rowsIn n l)) (rowAt head l .entry) (first-there m f a))))
       ]) refl is
 
+  -- the lowest number's first row
+  pub head-row : (m : ℕ) → m ≡ rowAt head l .entry .number → head < n → head ≡ headAt g (some m) (rowsIn n l)
+  head-row m q a = is ∙ ap (λ r. headAt g r (rowsIn n l)) (low-there a ∙ ap some (sym q))
+
   low-none : n ≤ head → low ≡ none
   unfolding isSome
   low-none a =
@@ -261,9 +290,8 @@ module _ (l : List ℕ) (n : ℕ) (g : Guid) (head : ℕ) (b : n ≤ 512) (is : 
       first-young : young turn (find (λ e. isHead turn m e) (staged 0 (rowsIn n l))) ≡ ltb (waited now (foundAt n head l)) (getD l 3 0)
       unfolding young isHead turnAt turnOf foundAt
       first-young =
-          let f : head ≡ headAt g (some m) (rowsIn n l) = is ∙ ap (λ r. headAt g r (rowsIn n l)) found in
           ap (λ x. ltb (waited now (find (λ e. ofGroup x e && eqb m (e .number)) (staged 0 (rowsIn n l)))) (getD l 3 0)) (sym d)
-          ∙ ap (λ x. ltb (waited now x) (getD l 3 0)) (first-there m f a)
+          ∙ ap (λ x. ltb (waited now x) (getD l 3 0)) (first-there m (head-row m q a) a)
           ∙ rw (lt-ltb head n a)
 
       round-head : (r z : Bool) → ready turn c m (staged 0 (rowsIn n l)) ≡ r → ltb (waited now (foundAt n head l)) (getD l 3 0) ≡ z

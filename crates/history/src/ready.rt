@@ -18,6 +18,7 @@ ghost use mathlib.Core.Path.{_≡_};
 ghost use mathlib.Core.Bool.{true};
 ghost use Prim.Native.Nat.{ℕ, _-_, _<_, _≤_, _^_};
 ghost use mathlib.Core.List.{[]};
+ghost use mathlib.Core.Option.{some};
 ghost use lib.Dec.{ltb};
 ghost use lib.ListN.{length, getD};
 ghost use Rattle.group_order.specs.Lists.{all};
@@ -28,7 +29,7 @@ ghost use Rattle.group_view.specs.View.{digestOf, pairsFor, pairsOf, digestsOf}
 ghost use Rattle.history.specs.Store.{rowAt, rowsIn, staged, writersOf, groupsOf};
 ghost use Rattle.group_view.specs.Keys.{keyAs};
 ghost use Rattle.history.specs.Ready.{pairFrom, rowPast, writerFine, digestsFine, headFor, rowCopied, arrivedFor, rowArrived, arrived};
-ghost use Rattle.history.specs.Tied.{groupAt, turnAt};
+ghost use Rattle.history.specs.Tied.{groupAt, turnAt, headAt};
 
 // Whether a number is past by a pair's marks.
 pub(crate) fn is_past(m: Marks, n: u64) -> bool
@@ -226,18 +227,19 @@ fn row_arrived(
     true
 }
 
-// For each entry of the number, its writer's copies arrived.
+// For each entry of the number, the first of them at row head, its writer's copies arrived.
 fn copies_arrived(
     store: &[u64; 6984],
     view: &[u64; 1307],
     n: usize,
+    head: usize,
     group: Key,
     number: u64,
 ) -> bool
-    requires { ⌜ (n ≤ 512) × (all (λ p. ltb (p .reader) 8) (pairsOf (now view)) ≡ true) ⌝ }
+    requires { ⌜ (n ≤ 512) × (head ≡ headAt (keyAs group) (some number) (rowsIn n (now store))) × (all (λ p. ltb (p .reader) 8) (pairsOf (now view)) ≡ true) ⌝ }
     ensures { λ r. ⌜ r ≡ arrived (keyAs group) number (pairsFor (now (view .entry)) (keyAs group)) (writersOf (now (store .entry))) (headFor (keyAs group) number (staged 0 (rowsIn n (now (store .entry))))) ⌝ }
 {
-    let mut i: usize = 0;
+    let mut i = head;
     while i < n {
         if !row_arrived(store, view, n, i, group, number) {
             return false;
@@ -278,16 +280,17 @@ pub(crate) fn is_ready(
     store: &[u64; 6984],
     view: &[u64; 1307],
     n: usize,
+    head: usize,
     i: usize,
     group: Key,
     committed: u64,
     number: u64,
 ) -> bool
-    requires { ⌜ (n ≤ 512) × (i < length (groupsOf (now store))) × (keyAs group ≡ groupAt (now store) i .guid) × (committed < 2 ^ 63) × (all (λ p. ltb (p .reader) 8) (pairsOf (now view)) ≡ true) ⌝ }
+    requires { ⌜ (n ≤ 512) × (head ≡ headAt (keyAs group) (some number) (rowsIn n (now store))) × (i < length (groupsOf (now store))) × (keyAs group ≡ groupAt (now store) i .guid) × (committed < 2 ^ 63) × (all (λ p. ltb (p .reader) 8) (pairsOf (now view)) ≡ true) ⌝ }
     ensures { λ r. ⌜ ((t : ℕ) → r ≡ ready (turnAt i (now (view .entry)) t (now (store .entry))) committed number (staged 0 (rowsIn n (now (store .entry))))) ⌝ }
 {
     if number == committed + 1 || ruled_out(store, view, i, group, committed, number) {
-        return copies_arrived(store, view, n, group, number);
+        return copies_arrived(store, view, n, head, group, number);
     }
     false
 }

@@ -29,6 +29,7 @@ use group_view::view::note_digests;
 use group_view::view::note_pairs;
 ghost use mathlib.Core.Path.{_≡_};
 ghost use mathlib.Core.Bool.{true};
+ghost use mathlib.Core.List.{List};
 ghost use mathlib.Core.Option.{some, none};
 ghost use Prim.Native.Nat.{ℕ, suc, _-_, _<_, _≤_, _^_};
 ghost use lib.Dec.{ltb};
@@ -197,7 +198,7 @@ fn head_step(
     if head < n {
         let number = number_at(store, head);
         let committed = committed_at(store, i);
-        if is_ready(store, view, n, i, group, committed, number) {
+        if is_ready(store, view, n, head, i, group, committed, number) {
             return went_on(commit(store, n, out, at, i, group, number, 0));
         }
         if !is_young(store, n, head, time) {
@@ -232,6 +233,26 @@ fn round(
     }
 }
 
+// Rows that are gone are taken out; answers the rows left.
+fn compact(store: &mut [u64; 6984], n: usize) -> usize
+    requires { ⌜ n ≤ 512 ⌝ }
+    ensures { λ r. ⌜ Compacted n r (now (store .entry)) (now (store .exit)) ⌝ }
+{
+    let k = remove_rows(store, n, Query::every(2));
+    remove_rows(store, k, Query::every(3))
+}
+
+// The same, every 32 repetitions: later ones then pass over fewer rows.
+fn tidy(store: &mut [u64; 6984], n: usize, fuel: usize) -> usize
+    requires { ⌜ n ≤ 512 ⌝ }
+    ensures { λ r. ⌜ ((i : ℕ) (o : List ℕ) (k : ℕ) → Goes i (λ w. w) (spot (now (store .entry)) n o k) (spot (now (store .exit)) r o k)) ⌝ }
+{
+    if fuel % 32 == 0 {
+        return compact(store, n);
+    }
+    n
+}
+
 // Repeats in the group at place i until it stops there. The fuel is enough: each repetition takes entries from pending or held.
 fn release_group(
     store: &mut [u64; 6984],
@@ -251,6 +272,7 @@ fn release_group(
     let mut fuel = 2 * n + 1;
     while 0 < fuel {
         fuel -= 1;
+        rows = tidy(store, rows, fuel);
         let p = round(store, view, rows, out, to, i, group, time);
         rows = p.rows;
         to = p.out;
@@ -283,15 +305,6 @@ fn release_groups(
         i += 1;
     }
     Progress { rows, out: to }
-}
-
-// Rows that are gone are taken out; answers the rows left.
-fn compact(store: &mut [u64; 6984], n: usize) -> usize
-    requires { ⌜ n ≤ 512 ⌝ }
-    ensures { λ r. ⌜ Compacted n r (now (store .entry)) (now (store .exit)) ⌝ }
-{
-    let k = remove_rows(store, n, Query::every(2));
-    remove_rows(store, k, Query::every(3))
 }
 
 pub enum Released {

@@ -1,4 +1,4 @@
--- `group_order::ready::copies_arrived` meets its contract: each of the first i rows has its writer's copies.
+-- `group_order::ready::copies_arrived` meets its contract: each row of the number before row i has its writer's copies.
 use Prim.Native.Nat.{_-_}
 use mathlib.Core.Path.{_≡_, sym, _∙_}
 use native.Mathlib.Omega.{arith}
@@ -15,19 +15,19 @@ use Rattle.history.proofs.ready.copies_arrived.Statement.{statement}
 use Rattle.history.proofs.ready.copies_arrived.Tie as tie
 
 abbrev Inv-loop : tie.InvT-loop
-Inv-loop store view n group number i₀ i =
+Inv-loop store view n head group number i₀ i =
     let l = headFor (keyAs group) number (staged 0 (rowsIn n store)) in
     let ps = pairsFor view (keyAs group) in
     arrived (keyAs group) number ps (writersOf store) l ≡ all (λ r. rowArrived (keyAs group) number ps (writersOf store) l r) (drop i (rowsIn n store))
 
 abbrev μ-loop : tie.MeasureT-loop
-μ-loop store view n group number i₀ i = n - i
+μ-loop store view n head group number i₀ i = n - i
 
 loop-holds : tie.Need-loop-holds Inv-loop μ-loop
-loop-holds c = rows-arrived _ _ _ _ _
+loop-holds c = rows-arrived _ _ _ _ _ _ (c .pre .1)
 
 row-arrived-requires : tie.Need-row-arrived-requires Inv-loop μ-loop
-row-arrived-requires c κs = let s = c .before .before in (s .pre .0, omega arith, s .pre .1)
+row-arrived-requires c κs = let s = c .before .before in (s .pre .0, omega arith, s .pre .2)
 
 returns : tie.Need-returns Inv-loop μ-loop
 returns c =

@@ -34,7 +34,7 @@ returns c t =
       | inl x ↦ or-true-left (eqb (a .number) (suc (a .committed))) out (eq-eqb (a .number) (suc (a .committed)) (x .taken ∙ add-one (a .committed)))
       | inr x ↦ or-true-right (eqb (a .number) (suc (a .committed))) out (sym (x .1 .ensures t) ∙ x .2 .taken)
     ] in
-    rw (turn-ready (a .i) (a .view .now) t (a .store .now) (keyAs (a .group)) (k .pre .2) (a .committed) (a .number), may)
+    rw (turn-ready (a .i) (a .view .now) t (a .store .now) (keyAs (a .group)) (k .pre .3) (a .committed) (a .number), may)
     (c .copies-arrived .ensures)
 
 returns-2 : tie.Need-returns-2
@@ -42,7 +42,7 @@ returns-2 c t =
     let s = c .before .before in
     let k = s .before in
     let a = k .args in
-    rw (turn-ready (a .i) (a .view .now) t (a .store .now) (keyAs (a .group)) (k .pre .2) (a .committed) (a .number), ne-eqb (a .number) (suc (a .committed)) (λ e. s .if1 .left (e ∙ sym (add-one (a .committed)))), ← c .before .ruled-out .ensures t, c .if2 .left)
+    rw (turn-ready (a .i) (a .view .now) t (a .store .now) (keyAs (a .group)) (k .pre .3) (a .committed) (a .number), ne-eqb (a .number) (suc (a .committed)) (λ e. s .if1 .left (e ∙ sym (add-one (a .committed)))), ← c .before .ruled-out .ensures t, c .if2 .left)
 
 pub is-ready-spec : {M : Type 1} → statement M
 is-ready-spec =

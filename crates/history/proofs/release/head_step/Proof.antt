@@ -3,7 +3,7 @@ use mathlib.Core.Path.{sym, _∙_}
 use native.Mathlib.Omega.{arith}
 use Rattle.history.proofs.RowLaws.{passed, failed}
 use Rattle.history.proofs.Spots.{fit-rows}
-use Rattle.history.proofs.Repeating.{number-small, committed-small, turn-guid, head-none, head-ready, head-old, head-young}
+use Rattle.history.proofs.Repeating.{number-small, committed-small, turn-guid, head-row, head-none, head-ready, head-old, head-young}
 use borrow.Author.Needs.{needs}
 use Rattle.history.proofs.release.head_step.Statement.{statement}
 use Rattle.history.proofs.release.head_step.Tie as tie
@@ -19,8 +19,10 @@ committed-at-requires c κs = search needs
 
 is-ready-requires : tie.Need-is-ready-requires
 is-ready-requires c κs =
-    let k = c .before .before .before .before .before .before .before .before .before in
-    (fit-rows _ (k .pre .0), k .pre .1, k .pre .2, rw (c .before .committed-at .ensures) (committed-small _ _ (k .pre .1)), k .pre .4)
+    let m = c .before .before .before in
+    let f = m .before .before .before in
+    let k = f .before .before .before in
+    (fit-rows _ (k .pre .0), head-row _ _ _ _ (fit-rows _ (k .pre .0)) (f .first-head .ensures) _ (m .number-at .ensures) (m .before .before .if1 .taken), k .pre .1, k .pre .2, rw (c .before .committed-at .ensures) (committed-small _ _ (k .pre .1)), k .pre .4)
 
 commit-requires : tie.Need-commit-requires
 commit-requires c κs =
