@@ -51,7 +51,7 @@ or-assoc : (a b c : Bool) → a || b || c ≡ (a || (b || c))
 or-assoc true b c = refl
 or-assoc false b c = refl
 
-or-false : (b : Bool) → b || false ≡ b
+pub or-false : (b : Bool) → b || false ≡ b
 or-false true = refl
 or-false false = refl
 

@@ -20,7 +20,7 @@ use Rattle.group_order.specs.Commit.{DigestRow, accepted}
 use Rattle.group_order.specs.Release.{malformed}
 use Rattle.group_order.specs.Guid.{Guid, sameGuid}
 use Rattle.group_view.specs.Keys.{guidOf, keyAs}
-use Rattle.group_view.specs.View.{digestOf, pairOf, digestRowOf, pairsOf, digestsOf, digestRowAt, more, viewOf, pairFor, pairAs, digestRowAs, PairAt, Cleared, Noted, NotedDigest}
+use Rattle.group_view.specs.View.{digestOf, pairOf, digestRowOf, pairsOf, digestsOf, digestRowAt, more, viewOf, pairFor, pairAs, digestRowAs, PairAt, Cleared, Noted, NotedDigest, Spoiled}
 use Rattle.group_view.specs.declared.key.Key.{Key}
 use Rattle.group_view.specs.declared.view.Counted.{Counted}
 use Rattle.group_view.specs.declared.view.Pair as P
@@ -194,6 +194,10 @@ module _ (v : List ℕ) (long : length v ≡ 1307) where
   noted-digest-more p h =
       let full : ltb (length (digestsOf v)) 8 ≡ false = le-ltb (length (digestsOf v)) 8 h in
       record { pairs = marked-pairs; digests = rw full marked-digests; any-more = more-marked v (ltb (length (digestsOf v)) 8) long full }
+
+  pub spoiled : Spoiled v (set v 2 1)
+  unfolding more
+  spoiled = record { pairs = marked-pairs; digests = marked-digests; over = rw (getD-set-same v 2 1 0 (omega arith)) }
 
 -- no row is noted
 pub cleared : (v : List ℕ) → length v ≡ 1307 → Cleared (set (set (set v 0 0) 1 0) 2 0)

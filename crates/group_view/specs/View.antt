@@ -80,6 +80,12 @@ pub record NotedDigest (d : D.DigestRow) (v u : List ℕ) : Type 0 where
   pub digests : digestsOf u ≡ cond (ltb (length (digestsOf v)) 8) (digestsOf v ++ (digestRowAs d ∷ [])) (digestsOf v)
   pub any-more : more u ≡ (more v || not (ltb (length (digestsOf v)) 8))
 
+-- the rows stay, and a release is refused: 9
+pub record Spoiled (v u : List ℕ) : Type 0 where
+  pub pairs : pairsOf u ≡ pairsOf v
+  pub digests : digestsOf u ≡ digestsOf v
+  pub over : more u ≡ true
+
 -- all rows of a list, one by one
 abbrev pub Steps : {R : Type 0} → (R → List ℕ → List ℕ → Type 0) → List R → List ℕ → List ℕ → Type 0
 Steps Step [] v u = v ≡ u

@@ -9,7 +9,7 @@ ghost use lib.Dec.{eqb, ltb};
 ghost use lib.ListN.{length};
 ghost use Rattle.group_order.specs.Commit.{accepted};
 ghost use Rattle.group_order.specs.Release.{malformed};
-ghost use Rattle.group_view.specs.View.{digestOf, pairsOf, digestsOf, digestRowAt, viewOf, more, PairAt, Cleared, Noted, NotedDigest, Steps};
+ghost use Rattle.group_view.specs.View.{digestOf, pairsOf, digestsOf, digestRowAt, viewOf, more, PairAt, Cleared, Noted, NotedDigest, Spoiled, Steps};
 ghost use Rattle.group_order.specs.Guid.{sameGuid};
 ghost use Rattle.group_order.specs.Lists.{any};
 ghost use Rattle.group_view.specs.Keys.{keyAs};
@@ -232,6 +232,14 @@ pub fn is_accepted(view: &[u64; 1307], group: Key, digest: u64) -> bool
         i += 1;
     }
     false
+}
+
+// A release on the view is refused from now on: 9.
+pub fn spoil(view: &mut [u64; 1307])
+    ensures { λ _. ⌜ Spoiled (now (view .entry)) (now (view .exit)) ⌝ }
+{
+    whole_view(view);
+    view[2] = 1;
 }
 
 // Refusal 9.

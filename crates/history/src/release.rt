@@ -38,7 +38,7 @@ ghost use Rattle.group_order.specs.Lists.{all, keep};
 ghost use Rattle.group_order.specs.Entry.{ofGroup};
 ghost use Rattle.group_order.specs.Sets.{lowestEnded};
 ghost use Rattle.group_order.specs.Commit.{Turn, lowestNumber};
-ghost use Rattle.group_order.specs.Release.{commit, rounds, enough};
+ghost use Rattle.group_order.specs.Release.{commit, rounds, enough, samples};
 ghost use Rattle.history.specs.Store.{rowAt, rowsIn, staged, groupsOf, stateOf};
 ghost use Rattle.group_view.specs.View.{pairsOf, rowsAs, NotedRows};
 ghost use Rattle.group_view.specs.Keys.{keyAs};
@@ -313,6 +313,14 @@ pub enum Released {
     ListTooShort,
 }
 
+// The stored samples.
+pub fn sample_count(store: &[u64; 6984]) -> usize
+    ensures { λ r. ⌜ r ≡ samples (stateOf (now (store .entry))) ⌝ }
+{
+    let n = entry_count(store);
+    count_rows(store, n, Query::samples(0)) + count_rows(store, n, Query::samples(1))
+}
+
 // The release on the rows that a view has noted.
 pub fn release_noted(
     store: &mut [u64; 6984],
@@ -327,8 +335,7 @@ pub fn release_noted(
         return Released::MalformedView;
     }
     let n = entry_count(store);
-    let samples = count_rows(store, n, Query::samples(0)) + count_rows(store, n, Query::samples(1));
-    if out.len() < samples {
+    if out.len() < sample_count(store) {
         return Released::ListTooShort;
     }
     let p = release_groups(store, view, n, out, time);

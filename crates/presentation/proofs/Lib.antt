@@ -5,3 +5,5 @@ pub mod GateCalls
 pub mod TbfLaws
 pub mod TbfOrder
 pub mod PLines
+pub mod TurnLaws
+pub mod TurnCounts

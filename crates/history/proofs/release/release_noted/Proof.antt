@@ -1,17 +1,15 @@
 -- `history::release::release_noted` meets its contract.
 use Prim.{tt}
-use Prim.Native.Nat.{_+_, _≤_, min}
+use Prim.Native.Nat.{_≤_}
 use mathlib.Core.Path.{_≡_, refl, sym, ap, subst, _∙_}
 use mathlib.Core.Bool.{false, _||_}
 use native.Mathlib.Omega.{arith}
-use lib.ListN.{length, getD}
+use lib.ListN.{length}
 use Rattle.coherent_set.specs.Answer.{answered}
-use Rattle.group_order.specs.Entry.{isSample}
-use Rattle.group_order.specs.Release.{malformed, samples}
+use Rattle.group_order.specs.Release.{malformed}
 use Rattle.history.specs.Store.{groupsOf, stateOf}
 use Rattle.group_view.specs.View.{more, viewOf}
 use Rattle.history.specs.Tied.{spot, Fit, ReleasedTo}
-use Rattle.history.proofs.Asked.{asked-count, counted-le}
 use Rattle.history.proofs.Spots.{fit-rows}
 use Rattle.history.proofs.Releasing.{released-fit}
 use Rattle.history.proofs.Answering.{noted-malformed, noted-short, noted-done, fit-all, readers-small}
@@ -31,69 +29,38 @@ returns c =
 entry-count-requires : tie.Need-entry-count-requires
 entry-count-requires c κs = search needs
 
-samples-requires : tie.Need-samples-requires
-samples-requires c κs = search needs
-
-count-rows-requires : tie.Need-count-rows-requires
-count-rows-requires c κs = search needs
-
-samples-requires-2 : tie.Need-samples-requires-2
-samples-requires-2 c κs = search needs
-
-count-rows-requires-2 : tie.Need-count-rows-requires-2
-count-rows-requires-2 c κs = search needs
-
-add-samples : tie.Need-add-samples
-add-samples c =
-    let s = c .before .before .before in
-    let n = s .before .before .before .entry-count .result in
-    let l = s .before .before .before .before .before .before .before .before .args .store .now in
-    omega (arith, counted-le (s .before .samples .result) n l (s .count-rows .result) (s .count-rows .ensures), counted-le (c .before .samples2 .result) n l (c .count-rows2 .result) (c .count-rows2 .ensures))
-
--- what was counted is the number of stored samples
-counted : (c : tie.After-count-rows2) → c .before .before .before .count-rows .result + c .count-rows2 .result
-    ≡ samples (stateOf (c .before .before .before .before .before .before .before .before .before .before .before .args .store .now))
-unfolding samples stateOf
-counted c =
-    let s = c .before .before .before in
-    let n = s .before .before .before .entry-count in
-    let l = s .before .before .before .before .before .before .before .before .args .store .now in
-    let pending = asked-count 0 (λ e. isSample e) l (n .ensures) (s .before .samples .result) (s .before .samples .ensures) (s .count-rows .ensures) in
-    let held = asked-count 1 (λ e. isSample e) l (n .ensures) (c .before .samples2 .result) (c .before .samples2 .ensures) (c .count-rows2 .ensures) in
-    rw (pending, held)
+sample-count-requires : tie.Need-sample-count-requires
+sample-count-requires c κs = search needs
 
 -- the view is not malformed
-fine : (c : tie.After-count-rows2) → more (c .before .before .before .before .before .before .before .before .before .before .before .args .view .now)
-    || malformed (viewOf (c .before .before .before .before .before .before .before .before .before .before .before .args .view .now)) ≡ false
-fine c =
-    let e = c .before .before .before .before .before .before in
-    sym (e .before .before .before .is-malformed .ensures) ∙ e .before .before .if1 .left
+fine : (c : tie.After-sample-count) → more (c .before .before .before .before .before .before .before .args .view .now) || malformed (viewOf (c .before .before .before .before .before .before .before .args .view .now)) ≡ false
+fine c = sym (c .before .before .before .before .before .is-malformed .ensures) ∙ c .before .before .before .before .if1 .left
 
 -- and there is room
-fits-in : (c : tie.After-count-rows2) → c .before .before .before .count-rows .result + c .count-rows2 .result ≤ length (c .before .before .before .before .before .before .before .before .before .before .before .args .out .now)
-    → Fit (spot (c .before .before .before .before .before .before .before .before .before .before .before .args .store .now) (c .before .before .before .before .before .before .entry-count .result) (c .before .before .before .before .before .before .before .before .before .before .before .args .out .now) 0)
+fits-in : (c : tie.After-sample-count) → c .sample-count .result ≤ length (c .before .before .before .before .before .before .before .args .out .now)
+    → Fit (spot (c .before .before .before .before .before .before .before .args .store .now) (c .before .before .entry-count .result) (c .before .before .before .before .before .before .before .args .out .now) 0)
 fits-in c h =
-    let a = c .before .before .before .before .before .before .before .before .before .before .before .args in
-    subst (λ m. Fit (spot (a .store .now) m (a .out .now) 0)) (sym (c .before .before .before .before .before .before .entry-count .ensures)) (fit-all (a .store .now) (a .out .now) (omega (arith, counted c, h)))
+    let a = c .before .before .before .before .before .before .before .args in
+    subst (λ m. Fit (spot (a .store .now) m (a .out .now) 0)) (sym (c .before .before .entry-count .ensures)) (fit-all (a .store .now) (a .out .now) (omega (arith, c .sample-count .ensures, h)))
 
 returns-2 : tie.Need-returns-2
 unfolding Rattle.history.specs.Calls.releasedAs Rattle.history.specs.Calls.Kept
 returns-2 c =
     let k = c .before in
-    let a = k .before .before .before .before .before .before .before .before .before .before .before .args in
-    (sym (noted-short (a .view .now) (stateOf (a .store .now)) (a .time) (a .out .now) (fine k) (omega (arith, counted k, c .if2 .taken))), refl)
+    let a = k .before .before .before .before .before .before .before .args in
+    (sym (noted-short (a .view .now) (stateOf (a .store .now)) (a .time) (a .out .now) (fine k) (omega (arith, k .sample-count .ensures, c .if2 .taken))), refl)
 
 release-groups-requires : tie.Need-release-groups-requires
 release-groups-requires c κs =
     let k = c .before .before .before in
-    (fits-in k (c .before .before .if2 .left), readers-small (k .before .before .before .before .before .before .before .before .before .before .before .args .view .now) (fine k))
+    (fits-in k (c .before .before .if2 .left), readers-small (k .before .before .before .before .before .before .before .args .view .now) (fine k))
 
 compact-requires : tie.Need-compact-requires
 compact-requires c κs =
     let r = c .before .before .before in
     let k = r .before .before .before .before in
-    let a = k .before .before .before .before .before .before .before .before .before .before .before .args in
-    let s = spot (a .store .now) (k .before .before .before .before .before .before .entry-count .result) (a .out .now) 0 in
+    let a = k .before .before .before .before .before .before .before .args in
+    let s = spot (a .store .now) (k .before .before .entry-count .result) (a .out .now) 0 in
     let e = spot (r .release-groups .last .0) (r .release-groups .result .rows) (r .release-groups .last .1 .1 .1 .0) (r .release-groups .result .out) in
     let fits = fits-in k (r .before .before .before .if2 .left) in
     fit-rows e (released-fit (a .view .now) (a .time) (length (groupsOf (a .store .now))) s e (r .release-groups .ensures) fits)
@@ -109,8 +76,8 @@ unfolding Rattle.history.specs.Calls.releasedAs Rattle.history.specs.s
 returns-3 c =
     let r = c .before .before .before .before .before .before in
     let k = r .before .before .before .before in
-    let a = k .before .before .before .before .before .before .before .before .before .before .before .args in
-    let n = k .before .before .before .before .before .before .entry-count in
+    let a = k .before .before .before .before .before .before .before .args in
+    let n = k .before .before .entry-count in
     let e = spot (r .release-groups .last .0) (r .release-groups .result .rows) (r .release-groups .last .1 .1 .1 .0) (r .release-groups .result .out) in
     let l = a .store .now in
     let fits = fits-in k (r .before .before .before .if2 .left) in
@@ -119,7 +86,7 @@ returns-3 c =
     noted-done (a .view .now) (a .time) l (a .out .now) e (m .result) (m .last .0)
     (subst (λ j. Fit (spot l j (a .out .now) 0)) (n .ensures) fits)
     (subst (λ j. ReleasedTo (length (groupsOf l)) (a .view .now) (a .time) (spot l j (a .out .now) 0) e) (n .ensures) (r .release-groups .ensures))
-    (m .ensures) (fine k) (omega (arith, counted k, r .before .before .before .if2 .left)) in
+    (m .ensures) (fine k) (omega (arith, k .sample-count .ensures, r .before .before .before .if2 .left)) in
     (ap (λ w. (answered (e .out), stateOf w, e .list)) (c .put-word .ensures .0) ∙ done, tt)
 
 pub release-noted-spec : {M : Type 1} → statement M
@@ -129,11 +96,7 @@ release-noted-spec =
     is-malformed-requires
     returns
     entry-count-requires
-    samples-requires
-    count-rows-requires
-    samples-requires-2
-    count-rows-requires-2
-    add-samples
+    sample-count-requires
     returns-2
     release-groups-requires
     compact-requires

@@ -1,0 +1,128 @@
+-- A release only lets the counts grow, so that what a turn reports, added to the counts before it, gives those after it.
+use Prim.Native.Nat.{ℕ, zero, suc, _+_, _-_, _^_, _≤_, min}
+use mathlib.Core.Path.{_≡_, refl, sym, subst, ap, _∙_}
+use mathlib.Core.Bool.{Bool, true, false, not}
+use mathlib.Core.List.{List, [], _∷_, _++_, map}
+use mathlib.Core.Option.{Option, some, none}
+use native.Mathlib.Omega.{arith}
+use lib.IntN.{ℤ}
+use lib.ListN.{length}
+use Rattle.group_order.specs.Lists.{keep}
+use Rattle.group_order.specs.Guid.{Guid}
+use Rattle.group_order.specs.Entry.{What, sample, setEnd, Entry}
+use Rattle.group_order.specs.State.{State, Group, Counts, plus}
+use Rattle.group_order.specs.Sets.{membersOf, whole, lowestStale}
+use Rattle.group_order.specs.Commit.{Turn, isHead, headOf}
+use Rattle.group_order.specs.Release.{Work, View, skip, discards, discard, handOut, finishIf, finish, discardOr, discardStale, withHeld, withOut, settle, commitOne, commitAll, commit, rounds, enough, turnOf, atGroup, releaseGroup, releaseAll, workOf, backTo, released, releaseRefusal, releasedIf, release}
+use Rattle.group_order.specs.Run.{Call, releases, step, run}
+use Rattle.group_order.proofs.Turns.{rounds-keep, round-keeps}
+use Rattle.presentation.specs.Turn.{Row, rowsCalls, applied, since, turnTo, AsCalls}
+use Rattle.presentation.specs.Turn as T
+use Rattle.presentation.proofs.TurnLaws.{run-append, applied-run, applied-quiet, counts-quiet, turn-calls}
+
+-- ---- one count
+
+abbrev most : ℕ
+most = 2 ^ 64 - 1
+
+-- from a on, and at most 2^64 − 1
+abbrev Within : ℕ → ℕ → Type 0
+Within a x = (a ≤ x) × (x ≤ most)
+
+plus-within : (a x k : ℕ) → Within a x → Within a (plus x k)
+unfolding plus
+plus-within a x k h = (omega (arith, h .0, h .1), omega arith)
+
+-- ---- the counts
+
+pub record Grown (b c : Counts) : Type 0 where
+  pub skipped : Within (b .skipped) (c .skipped)
+  pub incomplete : Within (b .incomplete) (c .incomplete)
+  pub discarded : Within (b .discarded) (c .discarded)
+  pub late : Within (b .late) (c .late)
+
+-- each at most 2^64 − 1
+abbrev pub Small : Counts → Type 0
+Small c = Grown c c
+
+module _ (b : Counts) where
+  discards-up : (k : ℕ) (c : Counts) → Grown b c → Grown b (discards k c)
+  unfolding discards
+  discards-up k c h = record { skipped = h .skipped; incomplete = plus-within (b .incomplete) (c .incomplete) 1 (h .incomplete); discarded = plus-within (b .discarded) (c .discarded) k (h .discarded); late = h .late }
+
+  skip-up : (k : ℕ) (c : Counts) → Grown b c → Grown b (skip k c)
+  unfolding skip
+  skip-up k c h = record { skipped = plus-within (b .skipped) (c .skipped) k (h .skipped); incomplete = h .incomplete; discarded = h .discarded; late = h .late }
+
+module _ {X : Type 0} (b : Counts) where
+  abbrev Up : Work X → Type 0
+  Up w = Grown b (w .counts)
+
+  discard-up : (g : Guid) (z : ℤ) (w : Work X) → Up w → Up (discard g z w)
+  unfolding discard
+  discard-up g z w h = discards-up b (length (membersOf g z (w .held))) (w .counts) h
+
+  stale-up : (k : ℕ) (e : Entry X) (w : Work X) → Up w → Up (discardStale k e w)
+  unfolding discardStale
+  stale-up zero e w h = h
+  stale-up (suc k) e w h = elim (lowestStale e (w .held)) as (λ o. Up (discardOr (λ v. discardStale k e v) (e .group) w o)) [ none ↦ h | some z ↦ stale-up k e (discard (e .group) z w) (discard-up (e .group) z w h) ]
+
+  settle-up : (e : Entry X) (w : Work X) (x : What X) (z : Option ℤ) → Up w → Up (settle e w x z)
+  unfolding withOut withHeld
+  settle-up e w (sample x) none h = h
+  settle-up e w (sample x) (some z) h = h
+  settle-up e w (setEnd f o) none h = h
+  settle-up e w (setEnd f o) (some z) h = h
+
+  commitAll-up : (l : List (Entry X)) (w : Work X) → Up w → Up (commitAll l w)
+  unfolding commitAll commitOne
+  commitAll-up [] w h = h
+  commitAll-up (e ∷ l) w h = commitAll-up l (commitOne e w) (settle-up e (discardStale (length (w .held)) e w) (e .what) (e .set) (stale-up (length (w .held)) e w h))
+
+  commit-up : (t : Turn) (n k : ℕ) (w : Work X) → Up w → Up (commit t n k w)
+  unfolding commit
+  commit-up t n k w h =
+      commitAll-up (headOf t n (w .pending)) (record { committed = n; pending = keep (λ e. not (isHead t n e)) (w .pending); held = w .held; out = w .out; lost = w .lost; counts = skip k (w .counts) }) (skip-up b k (w .counts) h)
+
+  finish-up : (t : Turn) (z : ℤ) (w : Work X) → Up w → Up (finish t z w)
+  unfolding finish handOut
+  finish-up t z w h = elim (whole (t .guid) z (t .counted) (w .held)) as (λ o. Up (finishIf o (t .guid) z w)) [ true ↦ h | false ↦ discard-up (t .guid) z w h ]
+
+  rounds-up : (t : Turn) (k : ℕ) (w : Work X) → Up w → Up (rounds k t w)
+  rounds-up t = rounds-keep Up t (λ w v e h. round-keeps Up t w v e (λ z d. finish-up t z w h) (λ n k c d. commit-up t n k w h))
+
+  releaseAll-up : (t : Group → Turn) (gs : List Group) (w : Work X) → Up w → Up (releaseAll t gs w .1)
+  unfolding releaseAll releaseGroup atGroup
+  releaseAll-up t [] w h = h
+  releaseAll-up t (g ∷ gs) w h = releaseAll-up t gs (releaseGroup (t g) g w) (rounds-up (t g) (enough w) (atGroup g w) h)
+
+module _ {X : Type 0} where
+  pub release-grows : (s : State X) (v : View) (now room : ℕ) → Small (s .counts) → Grown (s .counts) (release s v now room .1 .counts)
+  unfolding release released backTo workOf
+  release-grows s v now room h = elim (releaseRefusal s v room) as (λ o. Grown (s .counts) (releasedIf o s v now .1 .counts)) [
+    | some n ↦ h
+    | none ↦ releaseAll-up (s .counts) (λ g. turnOf v now (s .timeout) (s .writers) g) (s .groups) (workOf s) h
+  ]
+
+-- ---- what a turn reports
+
+sum : (a x : ℕ) → a ≤ x → a + (x - a) ≡ x
+sum a x h = omega (arith, h)
+
+-- the counts before a turn and what it reports give the counts after it
+pub turn-grows : (s : State ℕ) (rows : List Row) (v : View) (now : ℕ) (l : List ℕ) (n : ℕ) (c : Counts) → Small (s .counts) → turnTo s rows v now l .0 ≡ T.released n c
+    → (s .counts .skipped + c .skipped ≡ turnTo s rows v now l .1 .counts .skipped) × (s .counts .incomplete + c .incomplete ≡ turnTo s rows v now l .1 .counts .incomplete)
+    × (s .counts .discarded + c .discarded ≡ turnTo s rows v now l .1 .counts .discarded) × (s .counts .late + c .late ≡ turnTo s rows v now l .1 .counts .late)
+unfolding since
+turn-grows s rows v now l n c h e =
+    let a : AsCalls s rows v now l n c = turn-calls s rows v now l n c e in
+    let u : State ℕ = run s (rowsCalls s rows) in
+    let k : u .counts ≡ s .counts = ap (λ (x : State ℕ). x .counts) (sym (applied-run s rows)) ∙ applied-quiet (λ (x : State ℕ). x .counts) counts-quiet s rows in
+    let m : release u v now (length l) .1 ≡ turnTo s rows v now l .1 = unfold run step in sym (a .state ∙ run-append s (rowsCalls s rows) (releases now v l ∷ [])) in
+    let g : Grown (s .counts) (turnTo s rows v now l .1 .counts) = subst (λ x. Grown (s .counts) (x .counts)) m (subst (λ x. Grown x (release u v now (length l) .1 .counts)) k (release-grows u v now (length l) (subst (λ x. Small x) (sym k) h))) in
+    let d : c ≡ since (s .counts) (turnTo s rows v now l .1 .counts) = a .grown ∙ ap (λ (x : State ℕ). since (s .counts) (x .counts)) (sym (a .state)) in (
+      ap (λ (x : Counts). s .counts .skipped + x .skipped) d ∙ sum (s .counts .skipped) (turnTo s rows v now l .1 .counts .skipped) (g .skipped .0),
+      ap (λ (x : Counts). s .counts .incomplete + x .incomplete) d ∙ sum (s .counts .incomplete) (turnTo s rows v now l .1 .counts .incomplete) (g .incomplete .0),
+      ap (λ (x : Counts). s .counts .discarded + x .discarded) d ∙ sum (s .counts .discarded) (turnTo s rows v now l .1 .counts .discarded) (g .discarded .0),
+      ap (λ (x : Counts). s .counts .late + x .late) d ∙ sum (s .counts .late) (turnTo s rows v now l .1 .counts .late) (g .late .0),
+    )
