@@ -182,8 +182,14 @@ commit-as t g c k w e = rw (← e)
 
 -- the word is put and the count added; then the entries of the number are committed
 module _ (l a m : List ℕ) (n : ℕ) (o : List ℕ) (to i c k : ℕ) (long : length l ≡ 6984) (h : i < length (groupsOf l)) (b : c < 2 ^ 63) (e : a ≡ set l (8 + i * 4 + 2) c) (x : Counted 4 (plus (getD a 4 0) k) a m) where
+  counted : Counted 4 (plus (getD (set l (8 + i * 4 + 2) c) 4 0) k) (set l (8 + i * 4 + 2) c) m
+  counted = subst (λ y. Counted 4 (plus (getD y 4 0) k) y m) e x
+
+  pub rows-put : rowsIn n m ≡ rowsIn n l
+  rows-put = begun-rows l m n o to i c k long h b counted
+
   pub goes-put : Goes i (λ w. begun c k w) (spot l n o to) (spot m n o to)
-  goes-put = goes-begun l m n o to i c k long h b (subst (λ y. Counted 4 (plus (getD y 4 0) k) y m) e x)
+  goes-put = goes-begun l m n o to i c k long h b counted
 
   pub goes-commit : (g : Guid) (u : Spot) → Goes i (λ w. commitHeads g c w) (spot m n o to) u → (t : Turn) → t .guid ≡ g → Goes i (λ w. commit t c k w) (spot l n o to) u
   goes-commit g u z t d =

@@ -8,7 +8,7 @@ use native.Mathlib.Omega.{arith}
 use native.Mathlib.Numerals.{add-one}
 use lib.IntN.{ℤ}
 use lib.Dec.{eqb}
-use lib.ListN.{length, set, take, drop, length-set, length-append}
+use lib.ListN.{length, set, take, drop, length-set, length-append, take-append-drop}
 use lib.Seq.{take-suc-set, drop-set-lt, drop-drop}
 use borrow.Author.Tests.{eqb-true}
 use Rattle.group_order.specs.Lists.{keep, any, count, find, indexOf, isSome}
@@ -21,17 +21,17 @@ use Rattle.group_order.specs.Run.{placeW, placeOf}
 use Rattle.history.specs.Store.{Row, rowOf, rowAt, rowsIn, staged}
 use Rattle.history.specs.Records.{Asks, Pushed, pairIn, fits}
 use Rattle.history.specs.Ready.{headFor}
-use Rattle.history.specs.Tied.{Spot, spot, Tied, GoesBy, Goes, GoesRows, Fit, Left, Vacated, gone, needs, wants, withPending, commitHeads}
+use Rattle.history.specs.Tied.{Spot, spot, at, Tied, GoesBy, Goes, GoesRows, Fit, Left, Vacated, gone, needs, wants, withPending, headAt, commitHeads}
 use Rattle.history.specs.declared.query.Query.{Query}
-use Rattle.group_order.proofs.Lists.{count-append, count-cons, count-keep, count-last, count-one, count-le, and-left, and-right, keep-append, keep-none, find-any}
+use Rattle.group_order.proofs.Lists.{count-append, count-cons, count-keep, count-last, count-one, and-left, and-right, keep-append, keep-none, find-any}
 use Rattle.group_order.proofs.Guids.{same-eq}
 use Rattle.group_order.proofs.Fuel.{settle-pending, stale-pending}
 use Rattle.history.proofs.Queries.{index-le, staged-at, staged-past, staged-more, staged-same}
 use Rattle.history.proofs.RowLaws.{length-rows, row-in}
 use Rattle.history.proofs.StoreLaws.{head-groups, head-writers, head-counts, head-word}
 use Rattle.history.proofs.Gone.{vacated-stage, vacated-other, staged-split, gone-split, gone-same, kept-entries, index-front, index-passes}
-use Rattle.history.proofs.Asked.{staged-le}
-use Rattle.history.proofs.Spots.{fit-rows, fit-after}
+use Rattle.history.proofs.Asked.{count-asked}
+use Rattle.history.proofs.Spots.{fit-after}
 
 abbrev blank : Row
 blank = rowOf []
@@ -310,6 +310,11 @@ commit-keeps e w = settle-pending e (discardStale (length (w .held)) e w) (e .wh
 
 -- ---- the heads of a number
 
+count-rest : {A : Type 0} (t : A → Bool) (i : ℕ) (l : List A) → i ≡ indexOf t l → count t (drop i l) ≡ count t l
+unfolding count
+count-rest t i l e =
+    sym (ap (λ x. length (keep t x)) (sym (take-append-drop i l)) ∙ ap length (keep-append t (take i l) (drop i l)) ∙ rw (e, index-front t l))
+
 empty : {A : Type 0} (l : List A) → length l ≤ 0 → l ≡ []
 empty [] h = refl
 empty (a ∷ l) h = absurd (omega arith)
@@ -361,9 +366,11 @@ module _ (g : Guid) (n : ℕ) where
     pub same : length (t .list) ≡ length (s .list)
     pub goes : (i : ℕ) (from : Spot) (w : Work ℕ) → Tied i from s w → Onward k i from t w
 
-  pub heads-start : (s : Spot) → Fit s → Heads (s .rows) s s
-  unfolding needs
-  heads-start s f = record {
+  pub heads-within : (r : ℕ) (l : List ℕ) → r ≤ 512 → headAt g (some n) (rowsIn r l) ≤ r
+  heads-within r l b = omega (arith, index-le (λ x. eqb (x .stage) 0 && isHeadOf (x .entry)) (rowsIn r l), length-rows r l b)
+
+  heads-start : (k : ℕ) (s : Spot) → Fit s → count (λ e. isHeadOf e) (at 0 s) ≤ k → Heads k s s
+  heads-start k s f c = record {
     fit = f;
     rows = omega arith;
     room = omega arith;
@@ -372,7 +379,7 @@ module _ (g : Guid) (n : ℕ) where
       work = w;
       tied = t;
       like = refl;
-      fewer = omega (arith, count-le (λ e. isHeadOf e) (w .pending), ap length (t .carries .pending), staged-le (rowsIn (s .rows) (s .words)), length-rows (s .rows) (s .words) (fit-rows s f));
+      fewer = omega (arith, c, ap (count (λ e. isHeadOf e)) (t .carries .pending));
     };
   }
 
@@ -393,6 +400,11 @@ module _ (g : Guid) (n : ℕ) where
   heads-spent k s t h e = heads-end k s t h (λ i from v x f. empty (keep (λ e. isHeadOf e) (v .pending)) (omega (arith, f, e)))
 
   module _ (q : Query) (asks : Asks q 0 (λ e. isHeadOf e)) (l : List ℕ) (r : ℕ) (b : r ≤ 512) (j : ℕ) (f : j ≡ indexOf (λ x. fits q x) (rowsIn r l)) where
+    -- those from the first row that fits on are all
+    pub heads-from : (k : ℕ) (o : List ℕ) (to : ℕ) → Fit (spot l r o to) → k ≡ count (λ x. fits q x) (drop j (rowsIn r l)) → Heads k (spot l r o to) (spot l r o to)
+    heads-from k o to fit c =
+        heads-start k (spot l r o to) fit (omega (arith, c, count-rest (λ x. fits q x) j (rowsIn r l) f, count-asked 0 (λ e. isHeadOf e) q asks (rowsIn r l)))
+
     -- no row fits
     pub heads-past : (k : ℕ) (s : Spot) (o : List ℕ) (to : ℕ) → Heads k s (spot l r o to) → r ≤ j → (i : ℕ) → Goes i (λ w. commitHeads g n w) s (spot l r o to)
     unfolding isSome

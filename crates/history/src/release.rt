@@ -111,24 +111,26 @@ fn missing_before(number: u64, committed: u64) -> u64
     0
 }
 
-// Step 3: committed becomes `number`, `skipped` grows, and the entries of the number are committed in offer order.
+// Step 3: committed becomes `number`, `skipped` grows, and the entries of the number, the first of them at row
+// head, are committed in offer order.
 fn commit(
     store: &mut [u64; 6984],
     n: usize,
     out: &mut [u64],
     at: usize,
     i: usize,
+    head: usize,
     group: Key,
     number: u64,
     skipped: u64,
 ) -> Progress
-    requires { ⌜ Fit (spot (now store) n (now out) at) × (i < length (groupsOf (now store))) × (number < 2 ^ 63) ⌝ }
+    requires { ⌜ Fit (spot (now store) n (now out) at) × (i < length (groupsOf (now store))) × (number < 2 ^ 63) × (head ≡ headAt (keyAs group) (some number) (rowsIn n (now store))) ⌝ }
     ensures { λ r. ⌜ ((t : Turn) → t .guid ≡ keyAs group → Goes i (λ w. commit t number skipped w) (spot (now (store .entry)) n (now (out .entry)) at) (spot (now (store .exit)) (r .rows) (now (out .exit)) (r .out))) ⌝ }
 {
     whole(store);
     put_word(store, 8 + i * 4 + 2, number);
     add_count(store, 4, skipped);
-    commit_heads(store, n, out, at, group, number)
+    commit_heads(store, n, out, at, head, group, number)
 }
 
 // What one repetition did: whether it went on, the rows in use and the places written.
@@ -199,11 +201,11 @@ fn head_step(
         let number = number_at(store, head);
         let committed = committed_at(store, i);
         if is_ready(store, view, n, head, i, group, committed, number) {
-            return went_on(commit(store, n, out, at, i, group, number, 0));
+            return went_on(commit(store, n, out, at, i, head, group, number, 0));
         }
         if !is_young(store, n, head, time) {
             let skipped = missing_before(number, committed);
-            return went_on(commit(store, n, out, at, i, group, number, skipped));
+            return went_on(commit(store, n, out, at, i, head, group, number, skipped));
         }
     }
     Repetition {

@@ -163,19 +163,27 @@ pub(crate) fn find_row(store: &[u64; 6984], n: usize, q: Query) -> usize
     n
 }
 
-pub(crate) fn count_rows(store: &[u64; 6984], n: usize, q: Query) -> usize
-    requires { ⌜ n ≤ 512 ⌝ }
-    ensures { λ r. ⌜ r ≡ count (λ x. fits q x) (rowsIn n (now (store .entry))) ⌝ }
+// How many rows fit, from row `first` on.
+pub(crate) fn count_from(store: &[u64; 6984], n: usize, first: usize, q: Query) -> usize
+    requires { ⌜ (first ≤ n) × (n ≤ 512) ⌝ }
+    ensures { λ r. ⌜ r ≡ count (λ x. fits q x) (drop first (rowsIn n (now (store .entry)))) ⌝ }
 {
     let mut i = n;
     let mut k: usize = 0;
-    while 0 < i {
+    while first < i {
         i -= 1;
         if fits_at(store, i, q) {
             k += 1;
         }
     }
     k
+}
+
+pub(crate) fn count_rows(store: &[u64; 6984], n: usize, q: Query) -> usize
+    requires { ⌜ n ≤ 512 ⌝ }
+    ensures { λ r. ⌜ r ≡ count (λ x. fits q x) (rowsIn n (now (store .entry))) ⌝ }
+{
+    count_from(store, n, 0, q)
 }
 
 // Row i written over row j; where it stands there already, nothing is written.

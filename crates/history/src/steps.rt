@@ -10,6 +10,7 @@ use crate::leaving::vacate;
 use crate::leaving::vacate_rows;
 use crate::leaving::write_rows;
 use crate::query::Query;
+use crate::rows::count_from;
 use crate::rows::count_rows;
 use crate::rows::find_row;
 use crate::rows::fits_at;
@@ -37,7 +38,7 @@ ghost use Rattle.history.specs.Store.{rowAt, rowsIn, staged};
 ghost use Rattle.group_view.specs.View.{pairsFor};
 ghost use Rattle.group_view.specs.Keys.{keyAs};
 ghost use Rattle.history.specs.Records.{optionalAs, momentAs, entryAs};
-ghost use Rattle.history.specs.Tied.{gone, spot, Fit, Goes, GoesBy, GoesRows, Counted, Stalest, StaleGone, LowerStale, withPending, commitHeads};
+ghost use Rattle.history.specs.Tied.{gone, spot, Fit, Goes, GoesBy, GoesRows, Counted, Stalest, StaleGone, LowerStale, withPending, headAt, commitHeads};
 
 // Count `at` grows by k and stops at 2^64 - 1.
 pub(crate) fn add_count(store: &mut [u64; 6984], at: usize, k: u64)
@@ -320,31 +321,36 @@ fn commit_row(
     settle_entry(store, n, out, at, group, e)
 }
 
-// The entries of the number leave pending, in offer order, and are committed one by one.
+// The entries of the number, the first of them at row head, leave pending, in offer order, and are committed one by one.
 pub(crate) fn commit_heads(
     store: &mut [u64; 6984],
     n: usize,
     out: &mut [u64],
     at: usize,
+    head: usize,
     group: Key,
     number: u64,
 ) -> Progress
-    requires { ⌜ Fit (spot (now store) n (now out) at) ⌝ }
+    requires { ⌜ Fit (spot (now store) n (now out) at) × (head ≡ headAt (keyAs group) (some number) (rowsIn n (now store))) ⌝ }
     ensures { λ r. ⌜ ((i : ℕ) → Goes i (λ w. commitHeads (keyAs group) number w) (spot (now (store .entry)) n (now (out .entry)) at) (spot (now (store .exit)) (r .rows) (now (out .exit)) (r .out))) ⌝ }
 {
     let q = Query::of_number(group, number);
     let mut rows = n;
     let mut to = at;
-    let mut k = n;
+    let mut j = head;
+    let mut k = count_from(store, n, head, q);
     while 0 < k {
         k -= 1;
-        let j = find_row(store, rows, q);
         if rows <= j {
             return Progress { rows, out: to };
         }
         let p = commit_row(store, rows, out, to, j, group);
         rows = p.rows;
         to = p.out;
+        if k == 0 {
+            return Progress { rows, out: to };
+        }
+        j = find_row(store, rows, q);
     }
     Progress { rows, out: to }
 }

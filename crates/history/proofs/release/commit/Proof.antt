@@ -1,8 +1,12 @@
 -- `release::commit` meets its contract: the group's committed number and the count are written, then the entries of the number are committed.
+use mathlib.Core.Path.{sym, ap, _∙_}
+use mathlib.Core.Option.{some}
 use native.Mathlib.Omega.{arith}
+use Rattle.group_view.specs.Keys.{keyAs}
+use Rattle.history.specs.Tied.{headAt}
 use Rattle.history.proofs.StoreLaws.{few-groups}
 use Rattle.history.proofs.Spots.{fit-after}
-use Rattle.history.proofs.Repeating.{goes-put, goes-commit}
+use Rattle.history.proofs.Repeating.{rows-put, goes-put, goes-commit}
 use borrow.Author.Needs.{needs}
 use Rattle.history.proofs.release.commit.Statement.{statement}
 use Rattle.history.proofs.release.commit.Tie as tie
@@ -28,10 +32,11 @@ add-count-requires c κs = search needs
 commit-heads-requires : tie.Need-commit-heads-requires
 commit-heads-requires c κs =
     let p = c .before .before .before .before in
-    let k = c .before .before .before .before .before .before .before .before .before in
-    fit-after (k .args .i) _ _ _
-    (goes-put _ _ _ _ _ _ _ _ _ (c .before .before .before .before .before .before .whole .ensures) (k .pre .1) (k .pre .2) (p .put-word .ensures .0) (c .before .before .add-count .ensures))
-    (k .pre .0)
+    let w = c .before .before .before .before .before .before .whole .ensures in
+    let k = c .before .before .before .before .before .before .before .before .before in (
+      fit-after (k .args .i) _ _ _ (goes-put _ _ _ _ _ _ _ _ _ w (k .pre .1) (k .pre .2) (p .put-word .ensures .0) (c .before .before .add-count .ensures)) (k .pre .0),
+      k .pre .3 ∙ ap (headAt (keyAs (k .args .group)) (some (k .args .number))) (sym (rows-put _ _ _ _ (k .args .out .now) (k .args .at) _ _ _ w (k .pre .1) (k .pre .2) (p .put-word .ensures .0) (c .before .before .add-count .ensures))),
+    )
 
 same-length : tie.Need-same-length
 same-length c = search needs

@@ -27,8 +27,9 @@ is-ready-requires c κs =
 commit-requires : tie.Need-commit-requires
 commit-requires c κs =
     let m = c .before .before .before .before .before .before .before in
-    let k = m .before .before .before .before .before .before in
-    (k .pre .0, k .pre .1, rw (m .number-at .ensures) (number-small _ _))
+    let f = m .before .before .before in
+    let k = f .before .before .before in
+    (k .pre .0, k .pre .1, rw (m .number-at .ensures) (number-small _ _), head-row _ _ _ _ (fit-rows _ (k .pre .0)) (f .first-head .ensures) _ (m .number-at .ensures) (m .before .before .if1 .taken))
 
 went-on-requires : tie.Need-went-on-requires
 went-on-requires c κs = search needs
@@ -55,8 +56,9 @@ missing-before-requires c κs = search needs
 commit-requires-2 : tie.Need-commit-requires-2
 commit-requires-2 c κs =
     let m = c .before .before .before .before .before .before .before .before .before .before .before in
-    let k = m .before .before .before .before .before .before in
-    (k .pre .0, k .pre .1, rw (m .number-at .ensures) (number-small _ _))
+    let f = m .before .before .before in
+    let k = f .before .before .before in
+    (k .pre .0, k .pre .1, rw (m .number-at .ensures) (number-small _ _), head-row _ _ _ _ (fit-rows _ (k .pre .0)) (f .first-head .ensures) _ (m .number-at .ensures) (m .before .before .if1 .taken))
 
 went-on-requires-2 : tie.Need-went-on-requires-2
 went-on-requires-2 c κs = search needs
