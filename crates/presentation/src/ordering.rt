@@ -1,4 +1,11 @@
 // The history of a subscriber that orders by group, and its turn: GroupOrdering of the source.
+use group_view::view::DigestRow;
+use group_view::view::Pair;
+use group_view::view::clear;
+use group_view::view::is_malformed;
+use group_view::view::note_digests;
+use group_view::view::note_pairs;
+use group_view::view::spoil;
 use history::entry::Optional;
 use history::entry::What;
 use history::order::Digest;
@@ -11,13 +18,6 @@ use history::order::ReleaseCounts;
 use history::release::Released;
 use history::release::release_noted;
 use history::release::sample_count;
-use group_view::view::DigestRow;
-use group_view::view::Pair;
-use group_view::view::clear;
-use group_view::view::is_malformed;
-use group_view::view::note_digests;
-use group_view::view::note_pairs;
-use group_view::view::spoil;
 ghost use mathlib.Core.Path.{_≡_};
 ghost use mathlib.Core.List.{map};
 ghost use Prim.Native.Nat.{_-_};
