@@ -18,7 +18,7 @@ use Rattle.group_order.proofs.Lists.{keep-last, keep-map, length-keep, none-som
 use Rattle.presentation.specs.Gate.{Kind, isSample, isLifecycle, isEnd, Item, ends, changes, memberMark, firstMark, wordsOf, words, written, memberAs, holdAs}
 use Rattle.presentation.specs.declared.gate.Member.{Member}
 use Rattle.presentation.specs.declared.gate.CoherentHold.{CoherentHold}
-use Rattle.presentation.proofs.Arrays.{keep-more}
+use Rattle.filter_hold.proofs.Arrays.{keep-more}
 
 -- ---- lists
 

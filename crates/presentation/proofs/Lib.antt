@@ -1,9 +1,5 @@
-pub mod Arrays
-pub mod Packing
 pub mod GateLaws
 pub mod GateCalls
-pub mod TbfLaws
-pub mod TbfOrder
 pub mod PLines
 pub mod TurnLaws
 pub mod TurnCounts

@@ -1,3 +1,2 @@
 pub mod Gate
-pub mod Tbf
 pub mod Turn

@@ -1,4 +1,3 @@
 // What a subscriber's PRESENTATION does to the samples that a reader takes: presentation.rs of the source.
 pub mod gate;
 pub mod ordering;
-pub mod tbf;

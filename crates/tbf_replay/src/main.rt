@@ -11,14 +11,14 @@
 use decimal::Put;
 use decimal::Signed;
 use decimal::Unsigned;
+use filter_hold::tbf::DueAnswer;
+use filter_hold::tbf::Held;
+use filter_hold::tbf::HoldAnswer;
+use filter_hold::tbf::Separation;
+use filter_hold::tbf::TbfHold;
+use filter_hold::tbf::Time;
 use libc::STDIN_FILENO;
 use libc::STDOUT_FILENO;
-use presentation::tbf::DueAnswer;
-use presentation::tbf::Held;
-use presentation::tbf::HoldAnswer;
-use presentation::tbf::Separation;
-use presentation::tbf::TbfHold;
-use presentation::tbf::Time;
 ghost use Prim.Native.Nat.{_≤_};
 
 // Room for every answer: 32 samples of at most 55 bytes.
@@ -361,7 +361,7 @@ fn due_alone(hold: TbfHold, fields: &[u8], out: &mut Out) -> Answer {
     if 1000000000 <= separation.nanosec {
         return say(hold, b"refused 10\n", out);
     }
-    let due = presentation::tbf::time_after(arrival, separation);
+    let due = filter_hold::tbf::time_after(arrival, separation);
     let mut at = put_signed(out, 0, wide(due.sec));
     at = put(out, at, b" ");
     at = put_unsigned(out, at, due.nanosec as u64);

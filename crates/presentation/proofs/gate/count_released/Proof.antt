@@ -9,7 +9,7 @@ use Rattle.group_order.specs.Lists.{keep, count}
 use Rattle.history.specs.Records.{optionalAs}
 use Rattle.group_view.proofs.Loops.{count-hit, count-miss}
 use Rattle.presentation.specs.Gate.{leaves, holdAs}
-use Rattle.presentation.proofs.Arrays.{arr-len}
+use Rattle.filter_hold.proofs.Arrays.{arr-len}
 use Rattle.presentation.proofs.GateLaws.{blank, hold-few, hold-from}
 use Rattle.presentation.proofs.gate.count_released.Statement.{statement}
 use Rattle.presentation.proofs.gate.count_released.Tie as tie

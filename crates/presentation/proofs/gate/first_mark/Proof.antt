@@ -11,7 +11,7 @@ use borrow.Author.Needs.{needs}
 use Rattle.group_order.specs.Lists.{keep}
 use Rattle.history.specs.Records.{optionalAs}
 use Rattle.presentation.specs.Gate.{memberAs, leaves, firstMark, holdAs}
-use Rattle.presentation.proofs.Arrays.{arr-len}
+use Rattle.filter_hold.proofs.Arrays.{arr-len}
 use Rattle.presentation.proofs.GateLaws.{blank, hold-few, hold-from, first-hit, first-miss}
 use Rattle.presentation.proofs.gate.first_mark.Statement.{statement}
 use Rattle.presentation.proofs.gate.first_mark.Tie as tie

@@ -10,7 +10,7 @@ use borrow.Author.Needs.{needs}
 use Rattle.history.specs.declared.entry.Optional.the-variants.{Present}
 use Rattle.history.specs.Records.{optionalAs}
 use Rattle.presentation.specs.Gate.{memberAs, leftBy, holdAs, callAs, answerAs, Kept}
-use Rattle.presentation.proofs.Arrays.{arr-len}
+use Rattle.filter_hold.proofs.Arrays.{arr-len}
 use Rattle.presentation.proofs.GateLaws.{hold-length}
 use Rattle.presentation.proofs.GateCalls.{full, not-full, held-is}
 use Rattle.presentation.proofs.gate.hold_back.Statement.{statement}

@@ -7,8 +7,8 @@ use lib.ListN.{length}
 use borrow.Author.Needs.{needs}
 use Rattle.history.specs.Records.{optionalAs}
 use Rattle.presentation.specs.Gate.{leaves, memberAs}
-use Rattle.presentation.proofs.Arrays.{arr-len}
-use Rattle.presentation.proofs.Packing.{Packed, packed-start, packed-end, packed-moves, packed-stays}
+use Rattle.filter_hold.proofs.Arrays.{arr-len}
+use Rattle.filter_hold.proofs.Packing.{Packed, packed-start, packed-end, packed-moves, packed-stays}
 use Rattle.presentation.proofs.GateLaws.{hold-length, hold-kept}
 use Rattle.presentation.proofs.gate.keep_others.Statement.{statement}
 use Rattle.presentation.proofs.gate.keep_others.Tie as tie

@@ -4,7 +4,7 @@ use mathlib.Core.Path.{_≡_}
 use native.Mathlib.Omega.{arith}
 use lib.ListN.{length}
 use borrow.Author.Needs.{needs}
-use Rattle.presentation.proofs.Arrays.{arr-len}
+use Rattle.filter_hold.proofs.Arrays.{arr-len}
 use Rattle.presentation.proofs.GateLaws.{hold-length, hold-push}
 use Rattle.presentation.proofs.gate.push.Statement.{statement}
 use Rattle.presentation.proofs.gate.push.Tie as tie

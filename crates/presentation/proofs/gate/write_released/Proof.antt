@@ -8,7 +8,7 @@ use borrow.Author.Needs.{needs}
 use Rattle.group_order.specs.Lists.{count}
 use Rattle.history.specs.Records.{optionalAs}
 use Rattle.presentation.specs.Gate.{wordsOf, leaves, memberAs, holdAs}
-use Rattle.presentation.proofs.Arrays.{arr-len}
+use Rattle.filter_hold.proofs.Arrays.{arr-len}
 use Rattle.presentation.proofs.GateLaws.{blank, writing-fewer, hold-few, hold-upto, Writing, writing-none, writing-same, writing-more, writing-long}
 use Rattle.presentation.proofs.gate.write_released.Statement.{statement}
 use Rattle.presentation.proofs.gate.write_released.Tie as tie

@@ -1,0 +1,4 @@
+pub mod Arrays
+pub mod Packing
+pub mod TbfLaws
+pub mod TbfOrder
