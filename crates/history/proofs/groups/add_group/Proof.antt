@@ -1,4 +1,4 @@
--- `group_order::groups::add_group` meets its contract: the groups from i on were moved one place further, and the new one stands in the place that was left.
+-- `history::groups::add_group` meets its contract: the groups from i on were moved one place further, and the new one stands in the place that was left.
 use Prim.Native.Nat.{_-_, _≤_}
 use mathlib.Core.List.{[], _∷_}
 use mathlib.Core.Path.{_≡_, refl}

@@ -1,4 +1,4 @@
--- `group_order::groups::announce` meets its contract: the announced number of the group that is found is raised, and nothing changes without one.
+-- `history::groups::announce` meets its contract: the announced number of the group that is found is raised, and nothing changes without one.
 use mathlib.Core.List.{[]}
 use mathlib.Core.Path.{refl}
 use native.Mathlib.Omega.{arith}

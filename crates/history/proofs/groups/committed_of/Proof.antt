@@ -1,4 +1,4 @@
--- `group_order::groups::committed_of` meets its contract: the group that is found has its committed number in its third word.
+-- `history::groups::committed_of` meets its contract: the group that is found has its committed number in its third word.
 use mathlib.Core.List.{[]}
 use native.Mathlib.Omega.{arith}
 use borrow.Author.Needs.{needs}

@@ -1,4 +1,4 @@
--- `group_order::groups::find_group` meets its contract: none of the first i groups is the one asked for.
+-- `history::groups::find_group` meets its contract: none of the first i groups is the one asked for.
 use Prim.Native.Nat.{_-_, _≤_}
 use mathlib.Core.List.{[]}
 use mathlib.Core.Path.{_≡_, sym, _∙_}

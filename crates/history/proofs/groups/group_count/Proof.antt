@@ -1,4 +1,4 @@
--- `group_order::groups::group_count` meets its contract: the length of the groups is their word, but at most 8.
+-- `history::groups::group_count` meets its contract: the length of the groups is their word, but at most 8.
 use native.Mathlib.Omega.{arith}
 use borrow.Author.Needs.{needs}
 use Rattle.history.proofs.StoreLaws.{length-groups}

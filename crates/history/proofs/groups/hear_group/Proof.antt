@@ -1,4 +1,4 @@
--- `group_order::groups::hear_group` meets its contract: a known group changes nothing, and an unknown one is inserted.
+-- `history::groups::hear_group` meets its contract: a known group changes nothing, and an unknown one is inserted.
 use mathlib.Core.Path.{refl}
 use native.Mathlib.Omega.{arith}
 use lib.ListN.{length}

@@ -1,4 +1,4 @@
--- `group_order::groups::key_of` meets its contract: the first two words of a group's row are its GUID.
+-- `history::groups::key_of` meets its contract: the first two words of a group's row are its GUID.
 use mathlib.Core.List.{[]}
 use mathlib.Core.Path.{sym, _∙_}
 use borrow.Author.Needs.{needs}

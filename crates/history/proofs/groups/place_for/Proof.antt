@@ -1,4 +1,4 @@
--- `group_order::groups::place_for` meets its contract: none of the first i groups stands behind the key.
+-- `history::groups::place_for` meets its contract: none of the first i groups stands behind the key.
 use Prim.Native.Nat.{_-_, _≤_}
 use mathlib.Core.List.{[]}
 use mathlib.Core.Path.{_≡_, sym, _∙_}

@@ -1,4 +1,4 @@
--- `group_order::groups::row_of` meets its contract: at most 8 groups stand from word 8 on, four words each.
+-- `history::groups::row_of` meets its contract: at most 8 groups stand from word 8 on, four words each.
 use native.Mathlib.Omega.{arith}
 use Rattle.history.proofs.StoreLaws.{few-groups}
 use Rattle.history.proofs.groups.row_of.Statement.{statement}

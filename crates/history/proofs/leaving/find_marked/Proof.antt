@@ -1,4 +1,4 @@
--- `group_order::leaving::find_marked` meets its contract: no row before i fits and marks the set, so the place counts on from i.
+-- `history::leaving::find_marked` meets its contract: no row before i fits and marks the set, so the place counts on from i.
 use Prim.Native.Nat.{_≤_, _-_, _+_}
 use mathlib.Core.Path.{_≡_, sym, _∙_}
 use mathlib.Core.Bool.{_&&_}

@@ -1,4 +1,4 @@
--- `group_order::leaving::is_young` meets its contract: the time is the eleventh word, and a clock that went back waited nothing.
+-- `history::leaving::is_young` meets its contract: the time is the eleventh word, and a clock that went back waited nothing.
 use mathlib.Core.Path.{_≡_}
 use Prim.Native.Nat.{_-_}
 use native.Mathlib.Omega.{arith}

@@ -1,4 +1,4 @@
--- `group_order::leaving::marks_at` meets its contract: a tag says whether the entry marks its set ended.
+-- `history::leaving::marks_at` meets its contract: a tag says whether the entry marks its set ended.
 use mathlib.Core.Path.{sym, _∙_}
 use Rattle.history.proofs.Gone.{row-marks}
 use borrow.Author.Needs.{needs}

@@ -1,4 +1,4 @@
--- `group_order::leaving::place_at` meets its contract: a sample's item is the ninth word, and its reader the fifth.
+-- `history::leaving::place_at` meets its contract: a sample's item is the ninth word, and its reader the fifth.
 use Rattle.history.proofs.Gone.{row-place}
 use borrow.Author.Needs.{needs}
 use Rattle.history.proofs.leaving.place_at.Statement.{statement}

@@ -1,4 +1,4 @@
--- `group_order::leaving::vacate` meets its contract: the stage is the tags' two lowest bits, and all other tags stay.
+-- `history::leaving::vacate` meets its contract: the stage is the tags' two lowest bits, and all other tags stay.
 use native.Mathlib.Omega.{arith}
 use Rattle.history.proofs.Gone.{left}
 use borrow.Author.Needs.{needs}

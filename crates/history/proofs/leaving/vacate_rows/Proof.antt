@@ -1,4 +1,4 @@
--- `group_order::leaving::vacate_rows` meets its contract: of the rows before i those that fit are gone.
+-- `history::leaving::vacate_rows` meets its contract: of the rows before i those that fit are gone.
 use Prim.Native.Nat.{_≤_, _-_}
 use mathlib.Core.Path.{_≡_, sym, _∙_}
 use native.Mathlib.Omega.{arith}

@@ -1,4 +1,4 @@
--- `group_order::leaving::write_rows` meets its contract: the places of the rows before i are written.
+-- `history::leaving::write_rows` meets its contract: the places of the rows before i are written.
 use Prim.Native.Nat.{_≤_, _<_, _-_}
 use mathlib.Core.Path.{_≡_, sym, _∙_}
 use native.Mathlib.Omega.{arith}

@@ -1,4 +1,4 @@
--- `group_order::history::entry_of` meets its contract: the number is counted from 0, all else is the offer's.
+-- `history::order::entry_of` meets its contract: the number is counted from 0, all else is the offer's.
 use mathlib.Core.Path.{_≡_, _∙_, ap}
 use mir.Syntax.{w64}
 use mir.Val.{SFits}

@@ -1,4 +1,4 @@
--- `group_order::history::is_full` meets its contract: below 256 rows no 256 are stored; else they are counted.
+-- `history::order::is_full` meets its contract: below 256 rows no 256 are stored; else they are counted.
 use Prim.Native.Nat.{_<_}
 use mathlib.Core.Path.{sym}
 use mathlib.Core.Bool.{true}

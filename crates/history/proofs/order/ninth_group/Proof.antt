@@ -1,4 +1,4 @@
--- `group_order::history::ninth_group` meets its contract: the place found is the count where the group is not known.
+-- `history::order::ninth_group` meets its contract: the place found is the count where the group is not known.
 use Rattle.group_order.specs.State.{knowsGroup}
 use Rattle.group_order.specs.Offer.{ninth}
 use Rattle.history.specs.Store.{stateOf}

@@ -1,4 +1,4 @@
--- `group_order::history::pair_over_32` meets its contract: the place found is the count where the pair is not known.
+-- `history::order::pair_over_32` meets its contract: the place found is the count where the pair is not known.
 use Rattle.group_order.specs.State.{knowsWriter}
 use Rattle.group_order.specs.Offer.{pair33}
 use Rattle.history.specs.Store.{stateOf}

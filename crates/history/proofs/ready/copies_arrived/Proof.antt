@@ -1,4 +1,4 @@
--- `group_order::ready::copies_arrived` meets its contract: each row of the number before row i has its writer's copies.
+-- `history::ready::copies_arrived` meets its contract: each row of the number before row i has its writer's copies.
 use Prim.Native.Nat.{_-_}
 use mathlib.Core.Path.{_≡_, sym, _∙_}
 use native.Mathlib.Omega.{arith}

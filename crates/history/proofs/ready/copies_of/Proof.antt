@@ -1,4 +1,4 @@
--- `group_order::ready::copies_of` meets its contract: each of the first i rows has an entry or is past the number.
+-- `history::ready::copies_of` meets its contract: each of the first i rows has an entry or is past the number.
 use Prim.Native.Nat.{_-_}
 use mathlib.Core.Path.{_≡_, sym, _∙_}
 use native.Mathlib.Omega.{arith}

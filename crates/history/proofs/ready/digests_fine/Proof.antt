@@ -1,4 +1,4 @@
--- `group_order::ready::digests_fine` meets its contract: each of the first i writers is fine.
+-- `history::ready::digests_fine` meets its contract: each of the first i writers is fine.
 use Prim.Native.Nat.{_-_}
 use mathlib.Core.Path.{_≡_, sym, _∙_}
 use native.Mathlib.Omega.{arith}

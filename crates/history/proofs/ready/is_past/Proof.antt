@@ -1,4 +1,4 @@
--- `group_order::ready::is_past` meets its contract: each test decides, or leaves the next.
+-- `history::ready::is_past` meets its contract: each test decides, or leaves the next.
 use borrow.Author.Tests.{lt-ltb, le-ltb, le-leb, lt-leb}
 use Rattle.group_order.specs.Marks.{pastMarks}
 use Rattle.history.proofs.ReadyLaws.{less-not}

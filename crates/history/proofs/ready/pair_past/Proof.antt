@@ -1,4 +1,4 @@
--- `group_order::ready::pair_past` meets its contract: the marks of the writer that is found decide.
+-- `history::ready::pair_past` meets its contract: the marks of the writer that is found decide.
 use mathlib.Core.List.{[]}
 use mathlib.Core.Path.{_∙_}
 use native.Mathlib.Omega.{arith}

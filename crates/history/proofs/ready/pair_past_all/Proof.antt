@@ -1,4 +1,4 @@
--- `group_order::ready::pair_past_all` meets its contract: of the writer that is found, no number below the end is open.
+-- `history::ready::pair_past_all` meets its contract: of the writer that is found, no number below the end is open.
 use mathlib.Core.List.{[]}
 use native.Mathlib.Omega.{arith}
 use lib.ListN.{getD}

@@ -1,4 +1,4 @@
--- `group_order::ready::pairs_past` meets its contract: each of the first i rows is past all the numbers.
+-- `history::ready::pairs_past` meets its contract: each of the first i rows is past all the numbers.
 use Prim.Native.Nat.{_-_}
 use mathlib.Core.Path.{_≡_, sym, _∙_}
 use native.Mathlib.Omega.{arith}

@@ -1,4 +1,4 @@
--- `group_order::ready::row_arrived` meets its contract: of an entry of the number, its writer's copies decide.
+-- `history::ready::row_arrived` meets its contract: of an entry of the number, its writer's copies decide.
 use Prim.Native.Nat.{_+_, _*_}
 use mathlib.Core.Path.{sym, _∙_}
 use Rattle.history.specs.Store.{rowAt}

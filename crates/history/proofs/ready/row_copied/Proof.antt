@@ -1,4 +1,4 @@
--- `group_order::ready::row_copied` meets its contract: one test that passes decides, and else the pair's marks.
+-- `history::ready::row_copied` meets its contract: one test that passes decides, and else the pair's marks.
 use mathlib.Core.Path.{sym, _∙_}
 use Rattle.group_view.specs.Keys.{keyAs}
 use Rattle.history.specs.Store.{rowsIn}

@@ -1,4 +1,4 @@
--- `group_order::ready::row_past` meets its contract: of the group, the row's pair decides.
+-- `history::ready::row_past` meets its contract: of the group, the row's pair decides.
 use Rattle.history.specs.Ready.{rowPast}
 use Rattle.history.proofs.ReadyLaws.{pair-read, reader-small}
 use borrow.Author.Needs.{needs}

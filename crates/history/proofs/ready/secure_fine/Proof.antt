@@ -1,4 +1,4 @@
--- `group_order::ready::secure_fine` meets its contract: a word of 0 is no digest, and another one more than the digest.
+-- `history::ready::secure_fine` meets its contract: a word of 0 is no digest, and another one more than the digest.
 use borrow.Author.Tests.{eq-eqb, ne-eqb}
 use Rattle.group_order.specs.Commit.{secureAccepted}
 use borrow.Author.Needs.{needs}

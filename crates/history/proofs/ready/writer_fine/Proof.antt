@@ -1,4 +1,4 @@
--- `group_order::ready::writer_fine` meets its contract: the row has the group, and behind the marks the digests.
+-- `history::ready::writer_fine` meets its contract: the row has the group, and behind the marks the digests.
 use mathlib.Core.List.{[]}
 use native.Mathlib.Omega.{arith}
 use Rattle.group_order.specs.State.{newWriter}

@@ -1,4 +1,4 @@
--- `group_order::release::end_step` meets its contract: by what `set_waits` answers of the rows.
+-- `history::release::end_step` meets its contract: by what `set_waits` answers of the rows.
 use mir.Syntax.{w64}
 use mir.ValLaws.{toZ-ofZ}
 use Rattle.group_view.specs.Keys.{keyAs}

@@ -1,4 +1,4 @@
--- `group_order::release::first_head` meets its contract: from the end, the first row of the lowest number among the rows from row i on that fit.
+-- `history::release::first_head` meets its contract: from the end, the first row of the lowest number among the rows from row i on that fit.
 use Prim.Native.Nat.{_≤_, _-_, _+_}
 use mathlib.Core.Path.{_≡_, sym, _∙_}
 use mathlib.Core.Logic.{inl, inr}

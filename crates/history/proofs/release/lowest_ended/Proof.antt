@@ -1,4 +1,4 @@
--- `group_order::release::lowest_ended` meets its contract: from the end, the lowest set number of the rows from row i on that mark their set ended.
+-- `history::release::lowest_ended` meets its contract: from the end, the lowest set number of the rows from row i on that mark their set ended.
 use Prim.Native.Nat.{_≤_, _-_, _+_}
 use mathlib.Core.Path.{_≡_, sym, ap, _∙_}
 use mathlib.Core.Bool.{_&&_, and-assoc}

@@ -1,4 +1,4 @@
--- `group_order::release::number_at` meets its contract: a word of the row.
+-- `history::release::number_at` meets its contract: a word of the row.
 use Prim.Native.Nat.{_+_, _*_}
 use native.Mathlib.Omega.{arith}
 use Rattle.history.specs.Store.{rowOf, rowAt}

@@ -1,4 +1,4 @@
--- `group_order::rows::any_row` meets its contract: no row before i fits.
+-- `history::rows::any_row` meets its contract: no row before i fits.
 use Prim.Native.Nat.{_≤_, _-_}
 use mathlib.Core.Path.{_≡_, refl, sym, _∙_}
 use native.Mathlib.Omega.{arith}

@@ -1,4 +1,4 @@
--- `group_order::rows::copy_row` meets its contract: a row's words pasted over another's; a row written over itself changes nothing.
+-- `history::rows::copy_row` meets its contract: a row's words pasted over another's; a row written over itself changes nothing.
 use Prim.Native.Nat.{_+_, _*_}
 use mathlib.Core.Path.{_≡_}
 use native.Mathlib.Omega.{arith}

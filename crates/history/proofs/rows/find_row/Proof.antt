@@ -1,4 +1,4 @@
--- `group_order::rows::find_row` meets its contract: no row before i fits, so the place counts on from i.
+-- `history::rows::find_row` meets its contract: no row before i fits, so the place counts on from i.
 use Prim.Native.Nat.{_≤_, _-_, _+_}
 use mathlib.Core.Path.{_≡_, sym, _∙_}
 use native.Mathlib.Omega.{arith}

@@ -1,4 +1,4 @@
--- `group_order::rows::fits_at` meets its contract: one part of the query that fails decides, and else the last.
+-- `history::rows::fits_at` meets its contract: one part of the query that fails decides, and else the last.
 use lib.IntN.{ℤ}
 use mir.ValLaws.{toZ-ofZ}
 use mir.Val.{SFits}

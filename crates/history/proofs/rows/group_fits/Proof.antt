@@ -1,4 +1,4 @@
--- `group_order::rows::group_fits` meets its contract: a row begins with its group.
+-- `history::rows::group_fits` meets its contract: a row begins with its group.
 use borrow.Author.Needs.{needs}
 use Rattle.history.proofs.RowLaws.{row-group}
 use Rattle.history.proofs.rows.group_fits.Statement.{statement}

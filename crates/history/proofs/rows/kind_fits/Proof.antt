@@ -1,4 +1,4 @@
--- `group_order::rows::kind_fits` meets its contract: a tag says whether the entry is an end.
+-- `history::rows::kind_fits` meets its contract: a tag says whether the entry is an end.
 use native.Mathlib.Omega.{arith}
 use borrow.Author.Tests.{ne-eqb}
 use borrow.Author.Needs.{needs}

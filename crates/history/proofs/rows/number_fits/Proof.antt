@@ -1,4 +1,4 @@
--- `group_order::rows::number_fits` meets its contract: the number is the seventh word.
+-- `history::rows::number_fits` meets its contract: the number is the seventh word.
 use native.Mathlib.Omega.{arith}
 use borrow.Author.Needs.{needs}
 use Rattle.history.specs.Store.{rowOf}

@@ -1,4 +1,4 @@
--- `group_order::rows::push_row` meets its contract: the row's words pasted behind the rows.
+-- `history::rows::push_row` meets its contract: the row's words pasted behind the rows.
 use mathlib.Core.Path.{_≡_}
 use native.Mathlib.Omega.{arith}
 use lib.ListN.{length}

@@ -1,4 +1,4 @@
--- `group_order::rows::reader_fits` meets its contract: the reader is the fifth word.
+-- `history::rows::reader_fits` meets its contract: the reader is the fifth word.
 use native.Mathlib.Omega.{arith}
 use borrow.Author.Needs.{needs}
 use Rattle.history.specs.Store.{rowOf}

@@ -1,4 +1,4 @@
--- `group_order::rows::remove_rows` meets its contract: the rows before i are sifted into the first k, and those from i on are as they were.
+-- `history::rows::remove_rows` meets its contract: the rows before i are sifted into the first k, and those from i on are as they were.
 use Prim.Native.Nat.{_≤_, _-_}
 use mathlib.Core.Path.{_≡_}
 use native.Mathlib.Omega.{arith}

@@ -1,4 +1,4 @@
--- `group_order::rows::set_fits` meets its contract: a tag says whether a set number is present, and its word has the number's bits.
+-- `history::rows::set_fits` meets its contract: a tag says whether a set number is present, and its word has the number's bits.
 use native.Mathlib.Omega.{arith}
 use mir.ValLaws.{toZ-ofZ}
 use mir.Syntax.{w64}

@@ -1,4 +1,4 @@
--- `group_order::rows::stage_fits` meets its contract: the stage stands in the two lowest bits of the row's tags.
+-- `history::rows::stage_fits` meets its contract: the stage stands in the two lowest bits of the row's tags.
 use native.Mathlib.Omega.{arith}
 use borrow.Author.Needs.{needs}
 use Rattle.history.specs.Store.{rowOf, stageOf}

@@ -1,4 +1,4 @@
--- `group_order::rows::writer_fits` meets its contract: the writer stands behind the group.
+-- `history::rows::writer_fits` meets its contract: the writer stands behind the group.
 use borrow.Author.Needs.{needs}
 use Rattle.history.proofs.RowLaws.{row-writer}
 use Rattle.history.proofs.rows.writer_fits.Statement.{statement}

@@ -1,4 +1,4 @@
--- `group_order::sets::end_agrees` meets its contract: a sample agrees, an end by its numbers.
+-- `history::sets::end_agrees` meets its contract: a sample agrees, an end by its numbers.
 use Rattle.history.specs.Records.{whatAs}
 use borrow.Author.Needs.{needs}
 use Rattle.history.proofs.sets.end_agrees.Statement.{statement}

@@ -1,4 +1,4 @@
--- `group_order::sets::end_missing` meets its contract: an end is missing where not every counted pair has its own.
+-- `history::sets::end_missing` meets its contract: an end is missing where not every counted pair has its own.
 use mathlib.Core.Path.{sym, ap, _∙_}
 use mathlib.Core.Bool.{not}
 use mir.Syntax.{w64}

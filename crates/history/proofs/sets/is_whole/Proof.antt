@@ -1,4 +1,4 @@
--- `group_order::sets::is_whole` meets its contract: a set is whole where every counted pair agrees.
+-- `history::sets::is_whole` meets its contract: a set is whole where every counted pair agrees.
 use mathlib.Core.Path.{sym, _∙_}
 use mir.Syntax.{w64}
 use mir.ValLaws.{toZ-ofZ}

@@ -1,4 +1,4 @@
--- `group_order::sets::numbers_agree` meets its contract: each case of the two numbers is a clause of the definition.
+-- `history::sets::numbers_agree` meets its contract: each case of the two numbers is a clause of the definition.
 use mathlib.Core.Path.{_≡_}
 use mir.Syntax.{w64}
 use mir.Val.{toZ, ofZ}

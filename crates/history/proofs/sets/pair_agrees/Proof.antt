@@ -1,4 +1,4 @@
--- `group_order::sets::pair_agrees` meets its contract: the row found is the pair's end, the rows counted are the pair's members.
+-- `history::sets::pair_agrees` meets its contract: the row found is the pair's end, the rows counted are the pair's members.
 use mathlib.Core.Path.{sym, ap, _∙_}
 use mir.Syntax.{w64}
 use mir.ValLaws.{toZ-ofZ}

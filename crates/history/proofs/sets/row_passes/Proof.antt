@@ -1,4 +1,4 @@
--- `group_order::sets::row_passes` meets its contract: each way is a case of the group's test and of what is asked.
+-- `history::sets::row_passes` meets its contract: each way is a case of the group's test and of what is asked.
 use mathlib.Core.Path.{sym, _∙_}
 use mir.Syntax.{w64}
 use mir.ValLaws.{toZ-ofZ}

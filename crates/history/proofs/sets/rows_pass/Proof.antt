@@ -1,4 +1,4 @@
--- `group_order::sets::rows_pass` meets its contract: every counted row before i passes.
+-- `history::sets::rows_pass` meets its contract: every counted row before i passes.
 use Prim.Native.Nat.{_≤_, _-_}
 use mathlib.Core.Path.{_≡_, sym, _∙_}
 use mathlib.Core.Bool.{cond}

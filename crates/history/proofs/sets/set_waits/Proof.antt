@@ -1,4 +1,4 @@
--- `group_order::sets::set_waits` meets its contract: the row found is the first member.
+-- `history::sets::set_waits` meets its contract: the row found is the first member.
 use mathlib.Core.Path.{sym, ap, _∙_}
 use mir.Syntax.{w64}
 use mir.ValLaws.{toZ-ofZ}

@@ -1,4 +1,4 @@
--- `group_order::steps::add_count` meets its contract: the sum is written where it is below 2^64 − 1, else 2^64 − 1.
+-- `history::steps::add_count` meets its contract: the sum is written where it is below 2^64 − 1, else 2^64 − 1.
 use mathlib.Core.Path.{ap, _∙_}
 use lib.ListN.{set}
 use Rattle.group_order.specs.State.{plus}

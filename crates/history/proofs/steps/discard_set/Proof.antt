@@ -1,4 +1,4 @@
--- `group_order::steps::discard_set` meets its contract: the rows counted are the members, the rows that leave are the set's.
+-- `history::steps::discard_set` meets its contract: the rows counted are the members, the rows that leave are the set's.
 use mathlib.Core.Path.{_∙_}
 use mir.Syntax.{w64}
 use mir.ValLaws.{toZ-ofZ}

@@ -1,4 +1,4 @@
--- `group_order::steps::discard_stale` meets its contract: after n - k turns so many sets are discarded, the lowest first, and n are enough.
+-- `history::steps::discard_stale` meets its contract: after n - k turns so many sets are discarded, the lowest first, and n are enough.
 use Prim.Native.Nat.{suc, _≤_, _-_}
 use mathlib.Core.Path.{_≡_, sym, ap, _∙_}
 use mathlib.Core.Option.{some}

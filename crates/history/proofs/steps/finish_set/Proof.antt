@@ -1,4 +1,4 @@
--- `group_order::steps::finish_set` meets its contract: by what `is_whole` answers of the rows.
+-- `history::steps::finish_set` meets its contract: by what `is_whole` answers of the rows.
 use mathlib.Core.Path.{sym, _∙_}
 use mathlib.Core.Bool.{true, false}
 use mir.Syntax.{w64}

@@ -1,4 +1,4 @@
--- `group_order::steps::hand_out_set` meets its contract: the places written are the members', the rows that leave are the set's.
+-- `history::steps::hand_out_set` meets its contract: the places written are the members', the rows that leave are the set's.
 use mir.Syntax.{w64}
 use mir.ValLaws.{toZ-ofZ}
 use Rattle.group_view.specs.Keys.{keyAs}

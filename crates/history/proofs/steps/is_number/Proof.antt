@@ -1,4 +1,4 @@
--- `group_order::steps::is_number` meets its contract: two numbers are the same if their words are.
+-- `history::steps::is_number` meets its contract: two numbers are the same if their words are.
 use mir.Syntax.{w64}
 use mir.Val.{SFits}
 use Rattle.history.specs.Records.{optionalAs}

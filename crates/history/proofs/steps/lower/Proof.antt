@@ -1,4 +1,4 @@
--- `group_order::steps::lower` meets its contract, case by case.
+-- `history::steps::lower` meets its contract, case by case.
 use mathlib.Core.Path.{_≡_}
 use mathlib.Core.Bool.{true, false}
 use mir.Syntax.{w64}

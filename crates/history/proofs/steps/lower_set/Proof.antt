@@ -1,4 +1,4 @@
--- `group_order::steps::lower_set` meets its contract: the row's set number is what its entry is read with.
+-- `history::steps::lower_set` meets its contract: the row's set number is what its entry is read with.
 use mathlib.Core.Path.{_≡_, ap, _∙_}
 use mathlib.Core.Option.{some}
 use mir.Syntax.{w64}

@@ -1,4 +1,4 @@
--- `group_order::steps::lower_stale` meets its contract: a row without a set, of its own set, of an ended set, or of one that counts.
+-- `history::steps::lower_stale` meets its contract: a row without a set, of its own set, of an ended set, or of one that counts.
 use mathlib.Core.Path.{_≡_, sym, ap, _∙_}
 use native.Mathlib.Omega.{arith}
 use mir.Syntax.{w64}

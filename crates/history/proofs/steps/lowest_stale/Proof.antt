@@ -1,4 +1,4 @@
--- `group_order::steps::lowest_stale` meets its contract: from the end, the lowest set number of the rows from row i on whose set is neither ended
+-- `history::steps::lowest_stale` meets its contract: from the end, the lowest set number of the rows from row i on whose set is neither ended
 -- nor `own`; whether a set is ended, all rows decide.
 use Prim.Native.Nat.{_≤_, _-_, _+_}
 use mathlib.Core.Path.{_≡_, sym, _∙_}

@@ -1,4 +1,4 @@
--- `group_order::words::get_words` meets its contract: up to j the row holds the store's words from p on.
+-- `history::words::get_words` meets its contract: up to j the row holds the store's words from p on.
 use Prim.Native.Nat.{_-_, _≤_}
 use mathlib.Core.Path.{_≡_, sym, _∙_}
 use native.Mathlib.Omega.{arith}

@@ -1,4 +1,4 @@
--- `group_order::words::put_words` meets its contract: after j turns the row's first j words are pasted into the store.
+-- `history::words::put_words` meets its contract: after j turns the row's first j words are pasted into the store.
 use Prim.Native.Nat.{_-_, _≤_}
 use mathlib.Core.Path.{_≡_, ap, _∙_}
 use native.Mathlib.Omega.{arith}

@@ -1,4 +1,4 @@
--- `group_order::words::raise_word` meets its contract: a word that is not below v stays.
+-- `history::words::raise_word` meets its contract: a word that is not below v stays.
 use Prim.Native.Nat.{max}
 use mathlib.Core.Path.{_≡_, sym, _∙_, ap}
 use native.Mathlib.Omega.{arith}

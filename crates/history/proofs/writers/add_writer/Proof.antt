@@ -1,4 +1,4 @@
--- `group_order::writers::add_writer` meets its contract: the row that is written behind the others is a new writer.
+-- `history::writers::add_writer` meets its contract: the row that is written behind the others is a new writer.
 use mathlib.Core.List.{_∷_}
 use mathlib.Core.Path.{refl}
 use lib.ListN.{replicate}

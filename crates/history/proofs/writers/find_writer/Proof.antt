@@ -1,4 +1,4 @@
--- `group_order::writers::find_writer` meets its contract: none of the first i writers is the pair asked for.
+-- `history::writers::find_writer` meets its contract: none of the first i writers is the pair asked for.
 use Prim.Native.Nat.{_-_, _≤_}
 use mathlib.Core.List.{[]}
 use mathlib.Core.Path.{_≡_, sym, _∙_}

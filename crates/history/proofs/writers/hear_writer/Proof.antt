@@ -1,4 +1,4 @@
--- `group_order::writers::hear_writer` meets its contract: a known pair changes nothing, and an unknown one stands behind the others.
+-- `history::writers::hear_writer` meets its contract: a known pair changes nothing, and an unknown one stands behind the others.
 use Prim.Native.Nat.{_<_}
 use mathlib.Core.Path.{_≡_, refl}
 use native.Mathlib.Omega.{arith}

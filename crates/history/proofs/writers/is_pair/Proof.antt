@@ -1,4 +1,4 @@
--- `group_order::writers::is_pair` meets its contract: the first four words of a writer's row are its two GUIDs.
+-- `history::writers::is_pair` meets its contract: the first four words of a writer's row are its two GUIDs.
 use mathlib.Core.List.{[]}
 use borrow.Author.Needs.{needs}
 use Rattle.history.proofs.StoreLaws.{writer-group, writer-key}

@@ -1,4 +1,4 @@
--- `group_order::writers::marks_at` meets its contract: the marks are words of the writer's row.
+-- `history::writers::marks_at` meets its contract: the marks are words of the writer's row.
 use mathlib.Core.List.{[]}
 use borrow.Author.Needs.{needs}
 use Rattle.history.proofs.WriterWords.{marks-of}

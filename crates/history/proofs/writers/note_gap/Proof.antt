@@ -1,4 +1,4 @@
--- `group_order::writers::note_gap` meets its contract: the word written in the row is the reader's gap end.
+-- `history::writers::note_gap` meets its contract: the word written in the row is the reader's gap end.
 use Prim.Native.Nat.{_+_}
 use native.Mathlib.Omega.{arith}
 use borrow.Author.Needs.{needs}

@@ -1,4 +1,4 @@
--- `group_order::writers::note_heartbeat` meets its contract: the five words written in the row are the heartbeat's.
+-- `history::writers::note_heartbeat` meets its contract: the five words written in the row are the heartbeat's.
 use Prim.Native.Nat.{_+_}
 use mathlib.Core.Path.{_∙_, ap}
 use native.Mathlib.Omega.{arith}

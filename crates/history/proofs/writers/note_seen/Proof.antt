@@ -1,4 +1,4 @@
--- `group_order::writers::note_seen` meets its contract: the words written in the row are the number seen and the digest.
+-- `history::writers::note_seen` meets its contract: the words written in the row are the number seen and the digest.
 use Prim.Native.Nat.{_+_}
 use native.Mathlib.Omega.{arith}
 use borrow.Author.Needs.{needs}

@@ -1,4 +1,4 @@
--- `group_order::writers::or_keep` meets its contract: a word of 0 is no digest.
+-- `history::writers::or_keep` meets its contract: a word of 0 is no digest.
 use borrow.Author.Tests.{ne-eqb}
 use Rattle.group_order.specs.Marks.{orKeep}
 use Rattle.history.proofs.writers.or_keep.Statement.{statement}

@@ -1,4 +1,4 @@
--- `group_order::writers::row_of` meets its contract: at most 32 writers stand from word 40 on, 25 words each.
+-- `history::writers::row_of` meets its contract: at most 32 writers stand from word 40 on, 25 words each.
 use native.Mathlib.Omega.{arith}
 use Rattle.history.proofs.StoreLaws.{few-writers}
 use Rattle.history.proofs.writers.row_of.Statement.{statement}

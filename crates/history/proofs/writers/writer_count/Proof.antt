@@ -1,4 +1,4 @@
--- `group_order::writers::writer_count` meets its contract: the length of the writers is their word, but at most 32.
+-- `history::writers::writer_count` meets its contract: the length of the writers is their word, but at most 32.
 use native.Mathlib.Omega.{arith}
 use borrow.Author.Needs.{needs}
 use Rattle.history.proofs.StoreLaws.{length-writers}

@@ -1,4 +1,4 @@
--- `group_order::history::GroupOrder::counts` meets its contract: the counts are words 4 to 7.
+-- `history::order::GroupOrder::counts` meets its contract: the counts are words 4 to 7.
 use Rattle.history.specs.Store.{stateOf, countsOf}
 use Rattle.history.specs.Calls.{countsAs}
 use borrow.Author.Needs.{needs}

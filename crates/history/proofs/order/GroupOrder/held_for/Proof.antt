@@ -1,4 +1,4 @@
--- `group_order::history::GroupOrder::held_for` meets its contract: the rows counted are those of the pending and of the held entries.
+-- `history::order::GroupOrder::held_for` meets its contract: the rows counted are those of the pending and of the held entries.
 use Prim.Native.Nat.{ℕ}
 use mathlib.Core.Bool.{Bool, _&&_}
 use native.Mathlib.Omega.{arith}

@@ -1,4 +1,4 @@
--- `group_order::history::GroupOrder::is_empty` meets its contract: no row is pending and no sample held.
+-- `history::order::GroupOrder::is_empty` meets its contract: no row is pending and no sample held.
 use mathlib.Core.Bool.{true}
 use Rattle.group_order.specs.Entry.{isSample}
 use Rattle.group_order.specs.Run.{nothingWaits}

@@ -1,4 +1,4 @@
--- `group_order::history::GroupOrder::knows` meets its contract: the place found is below the count where the pair is known.
+-- `history::order::GroupOrder::knows` meets its contract: the place found is below the count where the pair is known.
 use Rattle.group_order.specs.State.{knowsWriter}
 use Rattle.history.proofs.Known.{index-any}
 use borrow.Author.Needs.{needs}

@@ -1,4 +1,4 @@
--- `group_order::history::GroupOrder::new` meets its contract: a header of zeros but for the timeout.
+-- `history::order::GroupOrder::new` meets its contract: a header of zeros but for the timeout.
 use mathlib.Core.Path.{refl}
 use Rattle.history.proofs.Fresh.{fresh-state}
 use borrow.Author.Needs.{needs}

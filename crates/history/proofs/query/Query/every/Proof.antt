@@ -1,4 +1,4 @@
--- `group_order::query::Query::every` meets its contract: of the seven parts only those asked for are left.
+-- `history::query::Query::every` meets its contract: of the seven parts only those asked for are left.
 use mathlib.Core.Bool.{and-true}
 use Rattle.history.specs.Records.{fits}
 use borrow.Author.Needs.{needs}

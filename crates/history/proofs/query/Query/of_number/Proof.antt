@@ -1,4 +1,4 @@
--- `group_order::query::Query::of_number` meets its contract: of the seven parts only those asked for are left.
+-- `history::query::Query::of_number` meets its contract: of the seven parts only those asked for are left.
 use mathlib.Core.Bool.{and-true, and-assoc}
 use Rattle.group_order.specs.Entry.{ofGroup}
 use Rattle.history.specs.Records.{fits}

@@ -1,4 +1,4 @@
--- `group_order::query::Query::of_pair` meets its contract: of the seven parts only those asked for are left.
+-- `history::query::Query::of_pair` meets its contract: of the seven parts only those asked for are left.
 use lib.Dec.{eqb}
 use mir.Syntax.{w64}
 use mir.ValLaws.{toZ-ofZ}

@@ -1,4 +1,4 @@
--- `group_order::query::Query::of_set` meets its contract: of the seven parts only those asked for are left.
+-- `history::query::Query::of_set` meets its contract: of the seven parts only those asked for are left.
 use mathlib.Core.Bool.{and-true, and-assoc}
 use mir.Syntax.{w64}
 use mir.ValLaws.{toZ-ofZ}

@@ -1,4 +1,4 @@
--- `group_order::query::Query::samples` meets its contract: of the seven parts only those asked for are left.
+-- `history::query::Query::samples` meets its contract: of the seven parts only those asked for are left.
 use mathlib.Core.Bool.{and-true}
 use Rattle.history.specs.Records.{fits}
 use Rattle.history.proofs.Asked.{beq-yes}
