@@ -10,7 +10,7 @@ use lib.Arith.{mod-mul}
 use lib.ListN.{length, take, drop, length-drop, take-append-drop}
 use lib.Seq.{take-all, length-take-le}
 use Rattle.coherent_set.specs.Marker.{bytesOf, numberOf}
-use Rattle.coherent_set.proofs.Bytes.{Bytes, pow-pos, bytesOf-numberOf, take-bytes, drop-bytes}
+use Rattle.coherent_set.proofs.Bytes.{Bytes, pow-pos, numberOf-bytesOf, bytesOf-numberOf, take-bytes, drop-bytes}
 use Rattle.group_order.specs.Guid.{Guid, orElse, compareGuid, sameGuid}
 use Rattle.group_view.specs.Keys.{guidOf}
 use Rattle.group_order.proofs.Compare.{lt-compare, gt-compare, eq-compare}
@@ -57,6 +57,19 @@ unfolding guidOf
 guid-words g e h =
     let d : length (drop 8 g) ≡ 8 = rw length-drop (omega arith) in
     rw (word-bytes g (omega arith) h, word-bytes (drop 8 g) (omega arith) (drop-bytes 8 g h), take-all 8 (drop 8 g) (omega arith)) (take-append-drop 8 g)
+
+word-number : (n : ℕ) → n < 2 ^ 64 → numberOf (bytesOf 8 n) ≡ n
+word-number n f = numberOf-bytesOf 8 n ∙ mod-eq-of-lt f
+
+-- a word is the number that its half of the GUID makes
+module _ (g : Guid) (a b : ℕ) (fa : a < 2 ^ 64) (fb : b < 2 ^ 64) (e : guidOf a b ≡ g) where
+  pub high-word : a ≡ numberOf (take 8 g)
+  unfolding guidOf bytesOf
+  high-word = sym (ap (λ x. numberOf (take 8 x)) (sym e) ∙ word-number a fa)
+
+  pub low-word : b ≡ numberOf (take 8 (drop 8 g))
+  unfolding guidOf bytesOf
+  low-word = sym (ap (λ x. numberOf (take 8 (drop 8 x))) (sym e) ∙ word-number b fb)
 
 -- GUIDs compare as their words do
 module _ (a b c d : ℕ) (fa : a < 2 ^ 64) (fb : b < 2 ^ 64) (fc : c < 2 ^ 64) (fd : d < 2 ^ 64) where

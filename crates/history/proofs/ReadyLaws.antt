@@ -105,17 +105,9 @@ module _ (o : Option Writer) (r a b : ℕ) (more : a < b) where
   unfolding pastOf
   past-unknown e = sym (from-same a (b - a) (λ n. pastOf o r n) (λ n. false) (λ n. ap (λ y. pastOf y r n) e) ∙ from-never a (b - a) (omega arith))
 
--- ---- a loop that ends at the first one that fails
+-- ---- a test that every one of a list passes
 
 module _ {A : Type 0} (p : A → Bool) (l m : List A) (x : A) (e : l ≡ x ∷ m) where
-  pub all-fails : p x ≡ false → all p l ≡ false
-  unfolding all
-  all-fails h = rw (e, h)
-
-  pub all-passes : p x ≡ true → all p l ≡ all p m
-  unfolding all
-  all-passes h = rw (e, h)
-
   pub all-first : all p l ≡ true → p x ≡ true
   unfolding all
   all-first h = and-left (p x) (all p m) (sym (ap (all p) e) ∙ h)

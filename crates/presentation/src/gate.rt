@@ -3,6 +3,7 @@ use coherent_set::bits_of;
 use group_order::guid::GuidOrder;
 use group_order::guid::compare;
 use group_order::number::is_distance;
+use group_view::key::pack;
 use history::entry::Optional;
 ghost use mathlib.Core.Path.{_≡_};
 ghost use mathlib.Core.Bool.{not, cond};
@@ -10,10 +11,9 @@ ghost use mathlib.Core.List.{[], _∷_, _++_};
 ghost use mathlib.Core.Option.{some, none};
 ghost use Prim.Native.Nat.{_+_, _*_, _≤_, _<_};
 ghost use lib.Dec.{eqb};
-ghost use lib.ListN.{length, take, drop};
+ghost use lib.ListN.{length};
 ghost use lib.Seq.{paste};
 ghost use Rattle.coherent_set.specs.Answer.{refused, answered};
-ghost use Rattle.coherent_set.specs.Marker.{numberOf};
 ghost use Rattle.group_order.specs.Lists.{keep, count};
 ghost use Rattle.group_order.specs.Guid.{sameGuid};
 ghost use Rattle.history.specs.Records.{optionalAs};
@@ -432,11 +432,10 @@ fn words_of(item: Item) -> [u64; 5]
     let writer = item.writer;
     let set = item.set;
     let tag = tag_of(kind, set);
-    let high = word_of(writer, 0);
-    let low = word_of(writer, 8);
+    let key = pack(writer);
     let mark = bits_of_mark(set);
     let number = item.item as u64;
-    [tag, high, low, mark, number]
+    [tag, key.hi, key.lo, mark, number]
 }
 
 fn tag_of(kind: Kind, set: Optional) -> u64
@@ -461,21 +460,6 @@ fn bits_of_mark(set: Optional) -> u64
         Optional::Absent => 0,
         Optional::Present(mark) => bits_of(mark),
     }
-}
-
-// The number that eight bytes of a GUID make, the most significant first.
-fn word_of(guid: [u8; 16], at: usize) -> u64
-    requires { ⌜ at ≤ 8 ⌝ }
-    ensures { λ r. ⌜ r ≡ numberOf (take 8 (drop at guid)) ⌝ }
-{
-    let mut n: u64 = 0;
-    let mut i: usize = 0;
-    while i < 8 {
-        let b = guid[at + i] as u64;
-        n = n * 256 + b;
-        i += 1;
-    }
-    n
 }
 
 fn put_words(out: &mut [u64], p: usize, row: &[u64])

@@ -9,8 +9,9 @@ use Rattle.group_view.specs.Keys.{keyAs}
 use Rattle.history.specs.Store.{writersOf, rowsIn, staged}
 use Rattle.group_view.specs.View.{pairsFor}
 use Rattle.history.specs.Ready.{headFor, rowArrived, arrived}
+use Rattle.group_view.proofs.Loops.{all-hit, all-miss}
 use Rattle.history.proofs.RowLaws.{passed, failed, rows-from, length-rows}
-use Rattle.history.proofs.ReadyLaws.{all-fails, all-passes, all-end, rows-arrived}
+use Rattle.history.proofs.ReadyLaws.{all-end, rows-arrived}
 use Rattle.history.proofs.ready.copies_arrived.Statement.{statement}
 use Rattle.history.proofs.ready.copies_arrived.Tie as tie
 
@@ -33,7 +34,7 @@ returns : tie.Need-returns Inv-loop μ-loop
 returns c =
     let s = c .before .before .before in
     let a = s .before .args in
-    sym (s .loop .inv ∙ all-fails _ _ _ _ (rows-from (a .n) (s .loop .i) (a .store .now) (omega arith) (omega arith)) (failed (c .before .row-arrived .ensures) (c .if1 .taken)))
+    sym (s .loop .inv ∙ all-hit _ _ _ _ (rows-from (a .n) (s .loop .i) (a .store .now) (omega arith) (omega arith)) (failed (c .before .row-arrived .ensures) (c .if1 .taken)))
 
 add-i : tie.Need-add-i Inv-loop μ-loop
 add-i c = search needs
@@ -45,7 +46,7 @@ loop-again : tie.Need-loop-again Inv-loop μ-loop
 loop-again c =
     let s = c .before .before .before in
     let a = s .before .args in
-    s .loop .inv ∙ all-passes _ _ _ _ (rows-from (a .n) (s .loop .i) (a .store .now) (omega arith) (omega arith)) (passed (c .before .row-arrived .ensures) (c .if1 .left))
+    s .loop .inv ∙ all-miss _ _ _ _ (rows-from (a .n) (s .loop .i) (a .store .now) (omega arith) (omega arith)) (passed (c .before .row-arrived .ensures) (c .if1 .left))
 
 returns-2 : tie.Need-returns-2 Inv-loop μ-loop
 returns-2 c =

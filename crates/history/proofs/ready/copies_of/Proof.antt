@@ -9,8 +9,9 @@ use Rattle.group_view.specs.Keys.{keyAs}
 use Rattle.history.specs.Store.{writersOf, rowsIn, staged}
 use Rattle.group_view.specs.View.{pairsOf, pairsFor}
 use Rattle.history.specs.Ready.{headFor, rowCopied, arrivedFor}
+use Rattle.group_view.proofs.Loops.{all-hit, all-miss}
 use Rattle.history.proofs.RowLaws.{passed, failed}
-use Rattle.history.proofs.ReadyLaws.{all-fails, all-passes, all-end, pair-from, rows-copied}
+use Rattle.history.proofs.ReadyLaws.{all-end, pair-from, rows-copied}
 use Rattle.history.proofs.ready.copies_of.Statement.{statement}
 use Rattle.history.proofs.ready.copies_of.Tie as tie
 
@@ -35,7 +36,7 @@ returns : tie.Need-returns Inv-loop μ-loop
 returns c =
     let s = c .before .before .before in
     let a = s .before .before .args in
-    sym (s .loop .inv ∙ all-fails _ _ _ _ (pair-from (a .view .now) (s .loop .i) (omega arith)) (failed (c .before .row-copied .ensures) (c .if1 .taken)))
+    sym (s .loop .inv ∙ all-hit _ _ _ _ (pair-from (a .view .now) (s .loop .i) (omega arith)) (failed (c .before .row-copied .ensures) (c .if1 .taken)))
 
 add-i : tie.Need-add-i Inv-loop μ-loop
 add-i c = search needs
@@ -47,7 +48,7 @@ loop-again : tie.Need-loop-again Inv-loop μ-loop
 loop-again c =
     let s = c .before .before .before in
     let a = s .before .before .args in
-    s .loop .inv ∙ all-passes _ _ _ _ (pair-from (a .view .now) (s .loop .i) (omega arith)) (passed (c .before .row-copied .ensures) (c .if1 .left))
+    s .loop .inv ∙ all-miss _ _ _ _ (pair-from (a .view .now) (s .loop .i) (omega arith)) (passed (c .before .row-copied .ensures) (c .if1 .left))
 
 returns-2 : tie.Need-returns-2 Inv-loop μ-loop
 returns-2 c =

@@ -9,8 +9,9 @@ use Rattle.group_view.specs.Keys.{keyAs}
 use Rattle.history.specs.Store.{writersOf}
 use Rattle.group_view.specs.View.{digestsOf}
 use Rattle.history.specs.Ready.{writerFine, digestsFine}
+use Rattle.group_view.proofs.Loops.{all-hit, all-miss}
 use Rattle.history.proofs.RowLaws.{passed, failed}
-use Rattle.history.proofs.ReadyLaws.{all-fails, all-passes, all-end, writers-from, rows-fine}
+use Rattle.history.proofs.ReadyLaws.{all-end, writers-from, rows-fine}
 use Rattle.history.proofs.ready.digests_fine.Statement.{statement}
 use Rattle.history.proofs.ready.digests_fine.Tie as tie
 
@@ -34,7 +35,7 @@ returns : tie.Need-returns Inv-loop μ-loop
 returns c =
     let s = c .before .before .before in
     let a = s .before .before .args in
-    sym (s .loop .inv ∙ all-fails _ _ _ _ (writers-from (a .store .now) (s .loop .i) (omega arith)) (failed (c .before .writer-fine .ensures) (c .if1 .taken)))
+    sym (s .loop .inv ∙ all-hit _ _ _ _ (writers-from (a .store .now) (s .loop .i) (omega arith)) (failed (c .before .writer-fine .ensures) (c .if1 .taken)))
 
 add-i : tie.Need-add-i Inv-loop μ-loop
 add-i c = search needs
@@ -46,7 +47,7 @@ loop-again : tie.Need-loop-again Inv-loop μ-loop
 loop-again c =
     let s = c .before .before .before in
     let a = s .before .before .args in
-    s .loop .inv ∙ all-passes _ _ _ _ (writers-from (a .store .now) (s .loop .i) (omega arith)) (passed (c .before .writer-fine .ensures) (c .if1 .left))
+    s .loop .inv ∙ all-miss _ _ _ _ (writers-from (a .store .now) (s .loop .i) (omega arith)) (passed (c .before .writer-fine .ensures) (c .if1 .left))
 
 returns-2 : tie.Need-returns-2 Inv-loop μ-loop
 returns-2 c =

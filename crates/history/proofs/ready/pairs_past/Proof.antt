@@ -12,8 +12,9 @@ use Rattle.history.specs.Ready.{rowPast}
 use Rattle.group_order.specs.Commit.{allFrom}
 use Rattle.group_order.specs.Marks.{pastOf}
 use Rattle.group_order.specs.State.{writerOf}
+use Rattle.group_view.proofs.Loops.{all-hit, all-miss}
 use Rattle.history.proofs.RowLaws.{passed, failed}
-use Rattle.history.proofs.ReadyLaws.{all-fails, all-passes, all-end, pair-from, rows-past}
+use Rattle.history.proofs.ReadyLaws.{all-end, pair-from, rows-past}
 use Rattle.history.proofs.ready.pairs_past.Statement.{statement}
 use Rattle.history.proofs.ready.pairs_past.Tie as tie
 
@@ -38,7 +39,7 @@ returns : tie.Need-returns Inv-loop μ-loop
 returns c =
     let s = c .before .before .before in
     let a = s .before .before .args in
-    sym (s .loop .inv ∙ all-fails _ _ _ _ (pair-from (a .view .now) (s .loop .i) (omega arith)) (failed (c .before .row-past .ensures) (c .if1 .taken)))
+    sym (s .loop .inv ∙ all-hit _ _ _ _ (pair-from (a .view .now) (s .loop .i) (omega arith)) (failed (c .before .row-past .ensures) (c .if1 .taken)))
 
 add-i : tie.Need-add-i Inv-loop μ-loop
 add-i c = search needs
@@ -50,7 +51,7 @@ loop-again : tie.Need-loop-again Inv-loop μ-loop
 loop-again c =
     let s = c .before .before .before in
     let a = s .before .before .args in
-    s .loop .inv ∙ all-passes _ _ _ _ (pair-from (a .view .now) (s .loop .i) (omega arith)) (passed (c .before .row-past .ensures) (c .if1 .left))
+    s .loop .inv ∙ all-miss _ _ _ _ (pair-from (a .view .now) (s .loop .i) (omega arith)) (passed (c .before .row-past .ensures) (c .if1 .left))
 
 returns-2 : tie.Need-returns-2 Inv-loop μ-loop
 returns-2 c =

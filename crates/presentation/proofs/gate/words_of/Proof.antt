@@ -1,5 +1,8 @@
 -- `words_of`: the five words of the definition.
+use native.Mathlib.Omega.{arith}
 use borrow.Author.Needs.{needs}
+use Rattle.group_view.specs.Keys.{keyAs}
+use Rattle.group_view.proofs.Keys.{high-word, low-word}
 use Rattle.presentation.specs.Gate.{wordsOf, itemAs}
 use Rattle.presentation.proofs.gate.words_of.Statement.{statement}
 use Rattle.presentation.proofs.gate.words_of.Tie as tie
@@ -7,11 +10,8 @@ use Rattle.presentation.proofs.gate.words_of.Tie as tie
 tag-of-requires : tie.Need-tag-of-requires
 tag-of-requires c κs = search needs
 
-word-of-requires : tie.Need-word-of-requires
-word-of-requires c κs = search needs
-
-word-of-requires-2 : tie.Need-word-of-requires-2
-word-of-requires-2 c κs = search needs
+pack-requires : tie.Need-pack-requires
+pack-requires c κs = search needs
 
 bits-of-mark-requires : tie.Need-bits-of-mark-requires
 bits-of-mark-requires c κs = search needs
@@ -20,16 +20,12 @@ cast-number : tie.Need-cast-number
 cast-number c = search needs
 
 returns : tie.Need-returns
-unfolding wordsOf itemAs
-returns c = rw (c .before .before .before .before .tag-of .ensures, c .before .before .before .word-of .ensures, c .before .before .word-of2 .ensures, c .before .bits-of-mark .ensures)
+unfolding wordsOf itemAs keyAs
+returns c =
+    let p = c .before .before .pack in
+    let h = high-word _ (p .result .hi) (p .result .lo) (omega arith) (omega arith) (p .ensures) in
+    let l = low-word _ (p .result .hi) (p .result .lo) (omega arith) (omega arith) (p .ensures) in
+    rw (c .before .before .before .tag-of .ensures, ← h, ← l, c .before .bits-of-mark .ensures)
 
 pub words-of-spec : {M : Type 1} → statement M
-words-of-spec =
-    tie.close
-    (tie.spec
-    tag-of-requires
-    word-of-requires
-    word-of-requires-2
-    bits-of-mark-requires
-    cast-number
-    returns)
+words-of-spec = tie.close (tie.spec tag-of-requires pack-requires bits-of-mark-requires cast-number returns)
