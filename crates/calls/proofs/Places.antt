@@ -1,0 +1,127 @@
+-- The places that a release writes print as the samples that it hands out.
+use Prim.Native.Nat.{ℕ, zero, suc, _+_, _*_, _/_, _%_, _^_, _≤_, _<_, min}
+use mathlib.Core.Path.{_≡_, refl, sym, ap, _∙_}
+use mathlib.Core.Bool.{Bool, true, false, not, _&&_, cond}
+use mathlib.Core.List.{List, [], _∷_, _++_, map}
+use native.Mathlib.Omega.{arith}
+use borrow.Author.Tests.{ltb-true, lt-ltb}
+use lib.Dec.{eqb, ltb}
+use lib.ListN.{length, getD, take, drop, length-append}
+use Rattle.decimal.specs.Print.{digitsOf}
+use Rattle.group_order.specs.Lists.{keep, all, count}
+use Rattle.group_order.specs.Entry.{What, sample, setEnd, Entry, isSampleW, isSample}
+use Rattle.group_order.specs.State.{State}
+use Rattle.group_order.specs.Release.{View, released}
+use Rattle.group_order.specs.Run.{placeW, placeOf}
+use Rattle.group_order.proofs.Lists.{and-left, and-right, and-true, all-map, all-always}
+use Rattle.group_order.proofs.Conserve.{stock, released-stock}
+use Rattle.group_view.specs.Table.{rows, table}
+use Rattle.history.specs.Store.{tag, optional, rowOf, rowsIn, rowsOf, staged, stateOf}
+use Rattle.calls.specs.Run.{itemW, sampleText, samplesText}
+use Rattle.calls.specs.Said.{placeText, placesText}
+use Rattle.calls.proofs.Running.{low-long}
+
+-- a sample whose place does not hold its reader in a byte and its item in 32 bits
+unfoldable pub wideW : ℕ → What ℕ → Bool
+wideW r w = isSampleW w && not (ltb r 256 && ltb (itemW w) (2 ^ 32))
+
+unfoldable pub wide : Entry ℕ → Bool
+wide e = wideW (e .reader) (e .what)
+
+-- ---- lists
+
+absurd-bool : {G : Type 0} → false ≡ true → G
+absurd-bool e = let z : _≡_ {A = ℕ} 0 1 = cc in absurd (omega arith)
+
+not-not : (b : Bool) → not (not b) ≡ true → b ≡ true
+not-not true e = refl
+not-not false e = e
+
+module _ {A : Type 0} (p : A → Bool) where
+  all-take : (n : ℕ) (l : List A) → all p l ≡ true → all p (take n l) ≡ true
+  unfolding all
+  all-take zero l h = refl
+  all-take (suc n) [] h = refl
+  all-take (suc n) (a ∷ l) h = and-true (p a) _ (and-left (p a) _ h) (all-take n l (and-right (p a) _ h))
+
+  all-keep : (q : A → Bool) (l : List A) → all p l ≡ true → all p (keep q l) ≡ true
+  unfolding all keep
+  all-keep q [] h = refl
+  all-keep q (a ∷ l) h =
+      let k = all-keep q l (and-right (p a) _ h) in
+      elim (q a) as (λ b. all p (cond b (a ∷ keep q l) (keep q l)) ≡ true) [ true ↦ and-true (p a) _ (and-left (p a) _ h) k | false ↦ k ]
+
+  none-count : (l : List A) → all (λ a. not (p a)) l ≡ true → count p l ≡ 0
+  unfolding all keep count
+  none-count [] h = refl
+  none-count (a ∷ l) h =
+      let k = none-count l (and-right (not (p a)) _ h) in
+      (elim (p a) as (λ b. not b ≡ true → length (cond b (a ∷ keep p l) (keep p l)) ≡ 0) [ true ↦ λ e. absurd-bool e | false ↦ λ e. k ]) (and-left (not (p a)) _ h)
+
+  count-none : (l : List A) → count p l ≡ 0 → all (λ a. not (p a)) l ≡ true
+  unfolding all keep count
+  count-none [] h = refl
+  count-none (a ∷ l) h =
+      (elim (p a) as (λ b. length (cond b (a ∷ keep p l) (keep p l)) ≡ 0 → not b && all (λ x. not (p x)) l ≡ true) [ true ↦ λ e. absurd (omega (arith, e)) | false ↦ λ e. count-none l e ]) h
+
+all-rows : {A : Type 0} (p : A → Bool) (d : List ℕ → A) (k n : ℕ) (l : List ℕ) → ((r : List ℕ) → p (d r) ≡ true) → all p (rows d k n l) ≡ true
+unfolding all rows
+all-rows p d k zero l h = refl
+all-rows p d k (suc n) l h = and-true (p (d (take k l))) _ (h (take k l)) (all-rows p d k n (drop k l) h)
+
+-- ---- the store holds none
+
+row-narrow : (r : List ℕ) → not (wide (rowOf r .entry)) ≡ true
+unfolding wide wideW rowOf
+row-narrow r =
+    elim (eqb (tag (getD r 5 0) 2) 1) as (λ b. not (isSampleW (cond b (setEnd (optional (tag (getD r 5 0) 4) (getD r 8 0)) (optional (tag (getD r 5 0) 5) (getD r 9 0))) (sample (getD r 8 0 % 2 ^ 32)))
+    && not (ltb (getD r 4 0 % 256) 256 && ltb (itemW (cond b (setEnd (optional (tag (getD r 5 0) 4) (getD r 8 0)) (optional (tag (getD r 5 0) 5) (getD r 9 0))) (sample (getD r 8 0 % 2 ^ 32)))) (2 ^ 32))) ≡ true) [
+      | true ↦ refl
+      | false ↦ rw (lt-ltb (getD r 4 0 % 256) 256 (omega arith), lt-ltb (getD r 8 0 % 2 ^ 32) (2 ^ 32) (omega arith))
+    ]
+
+staged-narrow : (k n : ℕ) (l : List ℕ) → count (λ e. wide e) (staged k (rowsIn n l)) ≡ 0
+unfolding staged rowsIn table
+staged-narrow k n l =
+    let t = rows (λ r. rowOf r) 12 512 (drop 840 l) in
+    none-count (λ e. wide e) (staged k (rowsIn n l))
+    (all-map (λ e. not (wide e)) (λ r. r .entry) (keep (λ r. eqb (r .stage) k) (take n t))
+    ∙ all-keep (λ r. not (wide (r .entry))) (λ r. eqb (r .stage) k) (take n t) (all-take (λ r. not (wide (r .entry))) n t (all-rows (λ r. not (wide (r .entry))) (λ r. rowOf r) 12 512 (drop 840 l) row-narrow)))
+
+wide-sample : (e : Entry ℕ) → wide e ≡ true → isSample e ≡ true
+unfolding wide wideW isSample
+wide-sample e h = and-left (isSampleW (e .what)) _ h
+
+-- nor is one handed out
+pub out-narrow : (l : List ℕ) (v : View) (now : ℕ) → all (λ e. not (wide e)) (released (stateOf l) v now .1 .out) ≡ true
+unfolding stock stateOf rowsOf
+out-narrow l v now =
+    let w = released (stateOf l) v now .1 in
+    let b = released-stock (λ e. wide e) wide-sample (stateOf l) v now in
+    count-none (λ e. wide e) (w .out) (omega (arith, b, staged-narrow 0 (min (getD l 2 0) 256) l, staged-narrow 1 (min (getD l 2 0) 256) l))
+
+-- ---- their text
+
+place-text : (r : ℕ) (w : What ℕ) → isSampleW w ≡ true → not (wideW r w) ≡ true
+    → (32 ∷ digitsOf (placeW r w / 2 ^ 32) ++ (58 ∷ digitsOf (placeW r w % 2 ^ 32)) ≡ 32 ∷ digitsOf r ++ (58 ∷ digitsOf (itemW w)))
+    × (length (32 ∷ digitsOf r ++ (58 ∷ digitsOf (itemW w))) ≤ 15)
+unfolding wideW
+place-text r (setEnd f o) s h = absurd-bool s
+place-text r (sample i) s h =
+    let n = not-not (ltb r 256 && ltb i (2 ^ 32)) h in
+    let a : r < 256 = ltb-true r 256 (and-left (ltb r 256) _ n) in
+    let b : i < 2 ^ 32 = ltb-true i (2 ^ 32) (and-right (ltb r 256) _ n) in
+    let x : (r * 2 ^ 32 + i) / 2 ^ 32 ≡ r = omega (arith, b) in
+    let y : (r * 2 ^ 32 + i) % 2 ^ 32 ≡ i = omega (arith, b) in (
+      rw (x, y),
+      omega (arith, length-append (32 ∷ digitsOf r) (58 ∷ digitsOf i), low-long 2 r (omega (arith, a)), low-long 9 i (omega (arith, b))),
+    )
+
+pub places-text : (l : List (Entry ℕ)) → all (λ e. isSample e) l ≡ true → all (λ e. not (wide e)) l ≡ true
+    → (placesText (map (λ e. placeOf e) l) ≡ samplesText l) × (length (samplesText l) ≤ 15 * length l)
+unfolding all placesText samplesText placeText sampleText placeOf isSample wide
+places-text [] s h = (refl, omega arith)
+places-text (e ∷ l) s h =
+    let a = place-text (e .reader) (e .what) (and-left _ _ s) (and-left (not (wide e)) _ h) in
+    let k = places-text l (and-right (isSample e) _ s) (and-right (not (wide e)) _ h) in
+    (ap (λ (t : List ℕ). t ++ placesText (map (λ x. placeOf x) l)) (a .0) ∙ ap (λ (t : List ℕ). sampleText e ++ t) (k .0), omega (arith, a .1, k .1, length-append (sampleText e) (samplesText l)))

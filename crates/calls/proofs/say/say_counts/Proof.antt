@@ -1,0 +1,45 @@
+-- `calls::say::say_counts` meets its contract.
+use borrow.Author.Needs.{needs}
+use Rattle.history.specs.Calls.{countsAs}
+use Rattle.calls.specs.Run.{countsText}
+use Rattle.calls.proofs.Saying.{said-both}
+use Rattle.calls.proofs.say.say_counts.Statement.{statement}
+use Rattle.calls.proofs.say.say_counts.Tie as tie
+
+slice-aggregate-put-text : tie.Need-slice-aggregate-put-text
+slice-aggregate-put-text c = search needs
+
+put-text-requires : tie.Need-put-text-requires
+put-text-requires c κs = search needs
+
+put-spaced-requires : tie.Need-put-spaced-requires
+put-spaced-requires c κs = search needs
+
+put-spaced-requires-2 : tie.Need-put-spaced-requires-2
+put-spaced-requires-2 c κs = search needs
+
+put-spaced-requires-3 : tie.Need-put-spaced-requires-3
+put-spaced-requires-3 c κs = search needs
+
+put-spaced-requires-4 : tie.Need-put-spaced-requires-4
+put-spaced-requires-4 c κs = search needs
+
+same-length : tie.Need-same-length
+same-length c = search needs
+
+returns : tie.Need-returns
+unfolding countsText countsAs
+returns c = said-both (said-both (said-both (said-both (c .before .before .before .before .before .before .before .before .before .before .before .before .before .before .before .before .before .before .put-text .ensures) (c .before .before .before .before .before .before .before .before .before .before .before .before .before .before .put-spaced .ensures)) (c .before .before .before .before .before .before .before .before .before .before .put-spaced2 .ensures)) (c .before .before .before .before .before .before .put-spaced3 .ensures)) (c .before .before .put-spaced4 .ensures)
+
+pub say-counts-spec : {M : Type 1} → statement M
+say-counts-spec =
+    tie.close
+    (tie.spec
+    slice-aggregate-put-text
+    put-text-requires
+    put-spaced-requires
+    put-spaced-requires-2
+    put-spaced-requires-3
+    put-spaced-requires-4
+    same-length
+    returns)

@@ -1,0 +1,18 @@
+-- Bytes put into a lent list, and the text of a release's answer by the places it wrote.
+use Prim.Native.Nat.{ℕ, _+_, _/_, _%_, _^_, _≤_}
+use mathlib.Core.Path.{_≡_}
+use mathlib.Core.List.{List, [], _∷_, _++_}
+use lib.ListN.{length}
+use Rattle.decimal.specs.Print.{digitsOf, putAt}
+
+-- where out has room for s from `at` on, s is put there, and r is the place behind it
+pub record Said (at : ℕ) (s : List ℕ) (r : ℕ) (out out′ : List ℕ) : Type 0 where
+  pub is : at + length s ≤ length out → (r ≡ at + length s) × (out′ ≡ putAt out at s)
+
+-- a space, reader:item of a place, reader · 2^32 + item
+unfoldable pub placeText : ℕ → List ℕ
+placeText p = 32 ∷ digitsOf (p / 2 ^ 32) ++ (58 ∷ digitsOf (p % 2 ^ 32))
+
+unfoldable pub placesText : List ℕ → List ℕ
+placesText [] = []
+placesText (p ∷ l) = placeText p ++ placesText l
