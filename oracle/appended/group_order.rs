@@ -54,6 +54,12 @@ impl<R: Clone + Ord, I> GroupOrder<R, I> {
         self.groups.get(group).map_or(0, |g| g.committed)
     }
 
+    /// All groups' committed numbers added: at least as many as were skipped.
+    pub(crate) fn committed_sum(&self) -> u128 {
+        let groups = self.groups.values();
+        groups.map(|g| u128::from(g.committed.unsigned_abs())).sum()
+    }
+
     /// Whether the open set keeps an end of the pair; `None` if the set
     /// isn't open.
     pub(crate) fn keeps_end(

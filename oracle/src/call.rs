@@ -17,11 +17,13 @@ pub(crate) struct Pair {
     pub reader: u8,
 }
 
+#[derive(Clone)]
 pub(crate) enum Content {
     Sample(u32),
     End(SetEnd),
 }
 
+#[derive(Clone)]
 pub(crate) struct Offer {
     pub pair: Pair,
     pub info: ChangeGroupInfo,

@@ -1,23 +1,31 @@
 //! Runs a program against the Rust on many lists.
 
 use core::time::Duration;
-use rust_std::io::{self, Read, Write};
+use rust_std::io::{Read, Write};
 use rust_std::process::{Child, Command, Stdio};
 use rust_std::sync::mpsc;
+use rust_std::time::Instant;
 use rust_std::{env, process, thread};
 
 use crate::kinds::{self, Kind};
 use crate::lists::{answers, Line};
 use crate::replay;
 
-const USAGE: &str = "compare COUNT SEED PROGRAM [call-list|turn|gate|tbf|scopes]";
+const USAGE: &str = "compare COUNT SEED PROGRAM [call-list|figures|turn|gate|tbf|scopes]";
 
 /// Lists of one run of the program.
 const BATCH: u64 = 500;
 
 /// A run that takes longer is ended, and counts as one that printed no more.
-const BATCH_TIME: Duration = Duration::from_secs(120);
-const LIST_TIME: Duration = Duration::from_secs(10);
+const BATCH_TIME: Duration = Duration::from_secs(30);
+const LIST_TIME: Duration = Duration::from_secs(5);
+
+/// A difference is shrunk no longer than this.
+const SHRINK_TIME: Duration = Duration::from_secs(60);
+
+/// After so many runs that ended before their last list, the lists that are
+/// left count as failed.
+const BROKEN: u64 = 5;
 
 pub fn main() {
     let (count, seed) = (replay::argument(1, USAGE), replay::argument(2, USAGE));
@@ -32,6 +40,7 @@ pub fn main() {
         program,
         passed: 0,
         failed: 0,
+        broken: 0,
     };
     let limits = (compare.kind.limits)();
     if !limits.is_empty() {
@@ -54,15 +63,20 @@ struct Compare {
     program: String,
     passed: u64,
     failed: u64,
+    broken: u64,
 }
 
 impl Compare {
     /// Runs lists through one process; the last line may lack its newline.
     fn batch(&mut self, mut lists: &[Vec<Line>], newline: bool) {
         while !lists.is_empty() {
+            if self.broken == BROKEN {
+                self.failed += lists.len() as u64;
+                return;
+            }
             let expected: Vec<_> = lists.iter().map(|list| self.expected(list)).collect();
-            let output = run(&self.program, &lists.concat(), newline, BATCH_TIME);
-            let mut rest = output.lines.as_slice();
+            let output = self.run(&lists.concat(), newline, BATCH_TIME);
+            let mut rest = output.answers.as_slice();
             let mut done = 0;
             for answers in &expected {
                 let answers = answers.as_deref().expect("lists are covered");
@@ -72,15 +86,17 @@ impl Compare {
                 let (these, others) = rest.split_at(answers.len().min(rest.len()));
                 rest = others;
                 done += 1;
-                if alike(answers, these) && !(last && (!rest.is_empty() || !output.good)) {
+                let ended_well = rest.is_empty() && output.fault.is_none();
+                if alike(answers, these) && (!last || ended_well) {
                     self.passed += 1;
                     continue;
                 }
                 self.failed += 1;
                 if self.failed == 1 {
-                    self.report(&lists[..done], newline);
+                    self.report(&lists[..done], newline, &output.fault);
                 }
                 if !whole {
+                    self.broken += 1;
                     break;
                 }
             }
@@ -97,22 +113,28 @@ impl Compare {
         let Some(answers) = self.expected(list) else {
             return false;
         };
-        let output = run(&self.program, list, newline, LIST_TIME);
-        !output.good || !alike(&answers, &output.lines)
+        let output = self.run(list, newline, LIST_TIME);
+        output.fault.is_some() || !alike(&answers, &output.answers)
     }
 
     /// Prints the last list, or all of them where it alone doesn't differ,
     /// without the lines that the difference does not need.
-    fn report(&self, lists: &[Vec<Line>], newline: bool) {
+    fn report(&self, lists: &[Vec<Line>], newline: bool, fault: &Option<String>) {
         let mut list = lists.last().cloned().unwrap_or_default();
         if !self.differs(&list, newline) {
             list = lists.concat();
         }
+        if !self.differs(&list, newline) {
+            println!("a difference that a second run of the same lines doesn't show");
+            println!("{}", fault.as_deref().unwrap_or("the program ended well"));
+            return;
+        }
+        let end = Instant::now() + SHRINK_TIME;
         let mut part = list.len().div_ceil(2);
         while part > 0 {
             let mut place = 0;
             let before = list.len();
-            while place < list.len() {
+            while place < list.len() && Instant::now() < end {
                 let mut less = list.clone();
                 less.drain(place..list.len().min(place + part));
                 if self.differs(&less, newline) {
@@ -130,74 +152,82 @@ impl Compare {
     }
 
     fn print(&self, list: &[Line], newline: bool) {
-        let answers = self.expected(list).unwrap_or_default();
-        let output = run(&self.program, list, newline, LIST_TIME);
+        let expected = self.expected(list).unwrap_or_default();
+        let output = self.run(list, newline, LIST_TIME);
         println!(
             "first difference, {} lines, the Rust's answer after each:",
             list.len()
         );
         for (place, line) in list.iter().enumerate() {
             println!("{}", line.escape_ascii());
-            let rust = answers[place].as_bytes();
-            println!("    {}", rust.escape_ascii());
-            match output.lines.get(place) {
-                Some(line) if line == rust => {}
-                Some(line) => println!("    but the program: {}", line.escape_ascii()),
+            let rust = expected[place].as_bytes();
+            print_answer("", rust);
+            match output.answers.get(place) {
+                Some(answer) if answer == rust => {}
+                Some(answer) => print_answer("but the program: ", answer),
                 None => println!("    but the program: nothing"),
             }
         }
-        for line in output.lines.iter().skip(list.len()) {
-            println!("    and the program: {}", line.escape_ascii());
+        for answer in output.answers.iter().skip(list.len()) {
+            print_answer("and the program: ", answer);
         }
         if !newline {
             println!("the last line has no newline");
         }
-        if !output.good {
-            println!("the program ended badly, or not in time");
+        if let Some(fault) = output.fault {
+            println!("{fault}");
+        }
+    }
+
+    fn run(&self, lines: &[Line], newline: bool, time: Duration) -> Output {
+        let mut input = lines.join(&b'\n');
+        // Without a newline an empty last line would be none.
+        if lines.last().is_some_and(|line| newline || line.is_empty()) {
+            input.push(b'\n');
+        }
+        let spawned = Command::new(&self.program)
+            .stdin(Stdio::piped())
+            .stdout(Stdio::piped())
+            .spawn();
+        let child = spawned.unwrap_or_else(|error| {
+            eprintln!("{}: {error}", self.program);
+            process::exit(2)
+        });
+        let (printed, fault) = talk(child, input, time);
+        let unfinished = printed.last().is_some_and(|byte| *byte != b'\n');
+        let mut printed: Vec<_> = printed.split(|byte| *byte == b'\n').collect();
+        if !unfinished {
+            printed.pop();
+        }
+        let answers = printed.chunks(self.kind.lines);
+        Output {
+            answers: answers.map(|lines| lines.join(&b'\n')).collect(),
+            fault: fault.or(unfinished.then(|| "the program's last line has no newline".into())),
         }
     }
 }
 
-fn alike(answers: &[String], lines: &[Line]) -> bool {
-    answers
-        .iter()
-        .map(String::as_bytes)
-        .eq(lines.iter().map(Line::as_slice))
+/// The second line of an answer stands below its first.
+fn print_answer(who: &str, answer: &[u8]) {
+    for line in answer.split(|byte| *byte == b'\n') {
+        println!("    {who}{}", line.escape_ascii());
+    }
+}
+
+fn alike(expected: &[String], answers: &[Vec<u8>]) -> bool {
+    let expected = expected.iter().map(String::as_bytes);
+    expected.eq(answers.iter().map(Vec::as_slice))
 }
 
 struct Output {
-    lines: Vec<Line>,
-    /// The program ended by itself, without an error.
-    good: bool,
+    /// The printed lines of each answer, a newline between them.
+    answers: Vec<Vec<u8>>,
+    /// How the program ended, unless by itself and without an error.
+    fault: Option<String>,
 }
 
-fn run(program: &str, lines: &[Line], newline: bool, time: Duration) -> Output {
-    let mut input = lines.join(&b'\n');
-    // Without a newline an empty last line would be none.
-    if lines.last().is_some_and(|line| newline || line.is_empty()) {
-        input.push(b'\n');
-    }
-    let spawned = Command::new(program)
-        .stdin(Stdio::piped())
-        .stdout(Stdio::piped())
-        .spawn();
-    let child = spawned.unwrap_or_else(|error| {
-        eprintln!("{program}: {error}");
-        process::exit(2)
-    });
-    let (output, good) = talk(child, input, time).unwrap_or_default();
-    let mut lines: Vec<Line> = output
-        .split(|byte| *byte == b'\n')
-        .map(Line::from)
-        .collect();
-    // What follows the last newline is a line if it isn't empty.
-    if lines.last().is_some_and(Line::is_empty) {
-        lines.pop();
-    }
-    Output { lines, good }
-}
-
-fn talk(mut child: Child, input: Vec<u8>, time: Duration) -> io::Result<(Vec<u8>, bool)> {
+/// What the program prints, and its fault.
+fn talk(mut child: Child, input: Vec<u8>, time: Duration) -> (Vec<u8>, Option<String>) {
     let (mut stdin, mut stdout) = match (child.stdin.take(), child.stdout.take()) {
         (Some(stdin), Some(stdout)) => (stdin, stdout),
         _ => unreachable!("both are piped"),
@@ -213,19 +243,25 @@ fn talk(mut child: Child, input: Vec<u8>, time: Duration) -> io::Result<(Vec<u8>
             }
         }
     });
-    let end = rust_std::time::Instant::now() + time;
+    let end = Instant::now() + time;
     let mut output = Vec::new();
     loop {
-        let left = end.saturating_duration_since(rust_std::time::Instant::now());
-        match parts.recv_timeout(left) {
+        match parts.recv_timeout(end.saturating_duration_since(Instant::now())) {
             Ok(part) => output.extend(part),
             Err(mpsc::RecvTimeoutError::Disconnected) => break,
             Err(mpsc::RecvTimeoutError::Timeout) => {
-                child.kill()?;
-                child.wait()?;
-                return Ok((output, false));
+                // It may have ended meanwhile.
+                let _ = child.kill();
+                let _ = child.wait();
+                let fault = format!("the program didn't end within {} s", time.as_secs());
+                return (output, Some(fault));
             }
         }
     }
-    Ok((output, child.wait()?.success()))
+    let fault = match child.wait() {
+        Ok(status) if status.success() => None,
+        Ok(status) => Some(format!("the program ended with {status}")),
+        Err(error) => Some(format!("the program's end is unknown: {error}")),
+    };
+    (output, fault)
 }

@@ -1,5 +1,7 @@
 //! What a history shows beside its answers, as text.
 
+use core::fmt::Write;
+
 use crate::group_order::{GroupOrder, ReleaseCounts};
 
 /// The waiting figure of the eight readers, and whether nothing waits.
@@ -12,11 +14,11 @@ pub(crate) fn waiting<I>(order: &GroupOrder<u8, I>) -> String {
 
 /// What a release wrote.
 pub(crate) fn written(samples: &[(u8, u32)]) -> String {
-    let samples = samples
-        .iter()
-        .map(|(reader, item)| format!(" {reader}:{item}"));
-    let samples: String = samples.collect();
-    format!("out{samples} |")
+    let mut text = String::from("out");
+    for (reader, item) in samples {
+        write!(text, " {reader}:{item}").expect("a string takes all");
+    }
+    text + " |"
 }
 
 pub(crate) fn counts(counts: &ReleaseCounts) -> String {

@@ -3,7 +3,7 @@
 use crate::call_list::CallList;
 use crate::gate::{self, Gate};
 use crate::lists::{self, Line};
-use crate::replay::{self, Replay, LIST_WALK};
+use crate::replay::{self, Replay, WithFigures, LIST_WALK};
 use crate::scopes::{self, Scopes};
 use crate::tbf::{self, Tbf};
 use crate::turn::{self, Turn};
@@ -13,6 +13,8 @@ const LENGTH: u64 = 30;
 
 pub(crate) struct Kind {
     pub name: &'static str,
+    /// Printed lines of an answer.
+    pub lines: usize,
     /// The Rust at the start.
     pub fresh: fn() -> Box<dyn Replay>,
     /// Calls at the limits, on their own.
@@ -21,33 +23,45 @@ pub(crate) struct Kind {
     pub list: fn(u64, u64, bool) -> Vec<Line>,
 }
 
-const KINDS: [Kind; 5] = [
+const KINDS: [Kind; 6] = [
     Kind {
         name: "call-list",
+        lines: 1,
         fresh: || Box::new(CallList::new(LIST_WALK)),
         limits: Vec::new,
         list: lists::list,
     },
     Kind {
+        name: "figures",
+        lines: 2,
+        fresh: || Box::new(WithFigures(CallList::new(LIST_WALK))),
+        limits: Vec::new,
+        list: lists::list,
+    },
+    Kind {
         name: "turn",
+        lines: 1,
         fresh: || Box::new(Turn::new(LIST_WALK)),
         limits: turn::limits,
         list: |seed, index, _| turn::list(seed, index),
     },
     Kind {
         name: "gate",
+        lines: 1,
         fresh: || Box::new(Gate::new()),
         limits: Vec::new,
         list: |seed, index, _| gate::list(seed, index, LENGTH),
     },
     Kind {
         name: "tbf",
+        lines: 1,
         fresh: || Box::new(Tbf::new()),
         limits: tbf::limits,
         list: |seed, index, _| tbf::list(seed, index, LENGTH),
     },
     Kind {
         name: "scopes",
+        lines: 1,
         fresh: || Box::new(Scopes::new()),
         limits: scopes::limits,
         list: |seed, index, _| scopes::list(seed, index, LENGTH),

@@ -21,6 +21,7 @@ mod figures;
 mod line;
 mod rng;
 
+pub mod bare;
 pub mod call_list;
 pub mod compare;
 pub mod gate;

@@ -18,7 +18,7 @@ pub type Line = Vec<u8>;
 type Generator = fn(&mut Rng) -> Vec<String>;
 
 /// Random lists, each as often as its weight says.
-const RANDOM: [(u64, Generator); 7] = [
+const RANDOM: [(u64, Generator); 8] = [
     (40, mixed::list),
     (40, published::list),
     (20, mixed::at_the_ends),
@@ -26,19 +26,20 @@ const RANDOM: [(u64, Generator); 7] = [
     (6, boundary::pairs),
     (1, boundary::rows),
     (1, boundary::entries),
+    (1, boundary::samples),
 ];
 
 /// One list of a seed, which demand 2 covers. It begins with `T`, unless it
 /// is the `first` of its process and tries the state before any `T`.
 pub fn list(seed: u64, index: u64, first: bool) -> Vec<Line> {
     let mut rng = Rng::of(seed, index);
-    let early = first && rng.once_in(2);
     let shorts = short::count();
-    if !early && index.is_multiple_of(2) && index / 2 < shorts {
+    if !index.is_multiple_of(2) && index / 2 < shorts {
         // The step is prime and no divisor of the count: none is met twice.
         let place = u128::from(seed % shorts) + u128::from(index / 2) * 1_000_003;
         return lines(short::list((place % u128::from(shorts)) as u64));
     }
+    let early = first && rng.once_in(2);
     loop {
         let mut list = match early {
             true => lines(mixed::before_any_fresh(&mut rng)),

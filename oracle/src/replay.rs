@@ -34,6 +34,21 @@ pub trait Replay {
     }
 }
 
+/// Answers with the figures, on a line of their own.
+pub(crate) struct WithFigures<R>(pub R);
+
+impl<R: Replay> Replay for WithFigures<R> {
+    fn answer(&mut self, line: &[u8]) -> String {
+        let answer = self.0.answer(line);
+        let figures = self.0.figures().unwrap_or_default();
+        format!("{answer}\n{figures}")
+    }
+
+    fn covered(&self) -> bool {
+        self.0.covered()
+    }
+}
+
 /// The printed form of an answer; `None` is a line of no known form.
 pub(crate) fn shown(answer: Option<Answer>) -> String {
     match answer {

@@ -182,8 +182,9 @@ impl Turn {
         if idle {
             return Ok("idle".into());
         }
-        let after = calls.history.order().counts();
-        calls.covered &= after.skipped_after_timeout >= before.skipped_after_timeout;
+        let order = calls.history.order();
+        calls.covered &= order.committed_sum() <= u64::MAX.into();
+        let after = order.counts();
         let added = added(&runtime, after.discarded_samples - before.discarded_samples);
         let counts = figures::counts(&after) + " |" + &figures::counts(&added);
         Ok(figures::written(&samples) + &counts)

@@ -1,8 +1,6 @@
-pub mod Fields
-pub mod Told
-pub mod Lines
 pub mod Saying
+pub mod Standing
 pub mod Running
 pub mod Places
 pub mod Releasing
-mod Examples
+pub mod Listing

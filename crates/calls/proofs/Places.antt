@@ -1,6 +1,6 @@
 -- The places that a release writes print as the samples that it hands out.
 use Prim.Native.Nat.{ℕ, zero, suc, _+_, _*_, _/_, _%_, _^_, _≤_, _<_, min}
-use mathlib.Core.Path.{_≡_, refl, sym, ap, _∙_}
+use mathlib.Core.Path.{_≡_, refl, ap, _∙_}
 use mathlib.Core.Bool.{Bool, true, false, not, _&&_, cond}
 use mathlib.Core.List.{List, [], _∷_, _++_, map}
 use native.Mathlib.Omega.{arith}
@@ -10,10 +10,9 @@ use lib.ListN.{length, getD, take, drop, length-append}
 use Rattle.decimal.specs.Print.{digitsOf}
 use Rattle.group_order.specs.Lists.{keep, all, count}
 use Rattle.group_order.specs.Entry.{What, sample, setEnd, Entry, isSampleW, isSample}
-use Rattle.group_order.specs.State.{State}
 use Rattle.group_order.specs.Release.{View, released}
 use Rattle.group_order.specs.Run.{placeW, placeOf}
-use Rattle.group_order.proofs.Lists.{and-left, and-right, and-true, all-map, all-always}
+use Rattle.group_order.proofs.Lists.{not-both, and-left, and-right, and-true, all-map, all-keep, all-take}
 use Rattle.group_order.proofs.Conserve.{stock, released-stock}
 use Rattle.group_view.specs.Table.{rows, table}
 use Rattle.history.specs.Store.{tag, optional, rowOf, rowsIn, rowsOf, staged, stateOf}
@@ -30,33 +29,17 @@ wide e = wideW (e .reader) (e .what)
 
 -- ---- lists
 
-absurd-bool : {G : Type 0} → false ≡ true → G
-absurd-bool e = let z : _≡_ {A = ℕ} 0 1 = cc in absurd (omega arith)
-
 not-not : (b : Bool) → not (not b) ≡ true → b ≡ true
 not-not true e = refl
 not-not false e = e
 
 module _ {A : Type 0} (p : A → Bool) where
-  all-take : (n : ℕ) (l : List A) → all p l ≡ true → all p (take n l) ≡ true
-  unfolding all
-  all-take zero l h = refl
-  all-take (suc n) [] h = refl
-  all-take (suc n) (a ∷ l) h = and-true (p a) _ (and-left (p a) _ h) (all-take n l (and-right (p a) _ h))
-
-  all-keep : (q : A → Bool) (l : List A) → all p l ≡ true → all p (keep q l) ≡ true
-  unfolding all keep
-  all-keep q [] h = refl
-  all-keep q (a ∷ l) h =
-      let k = all-keep q l (and-right (p a) _ h) in
-      elim (q a) as (λ b. all p (cond b (a ∷ keep q l) (keep q l)) ≡ true) [ true ↦ and-true (p a) _ (and-left (p a) _ h) k | false ↦ k ]
-
   none-count : (l : List A) → all (λ a. not (p a)) l ≡ true → count p l ≡ 0
   unfolding all keep count
   none-count [] h = refl
   none-count (a ∷ l) h =
       let k = none-count l (and-right (not (p a)) _ h) in
-      (elim (p a) as (λ b. not b ≡ true → length (cond b (a ∷ keep p l) (keep p l)) ≡ 0) [ true ↦ λ e. absurd-bool e | false ↦ λ e. k ]) (and-left (not (p a)) _ h)
+      (elim (p a) as (λ b. not b ≡ true → length (cond b (a ∷ keep p l) (keep p l)) ≡ 0) [ true ↦ λ e. not-both false e refl | false ↦ λ e. k ]) (and-left (not (p a)) _ h)
 
   count-none : (l : List A) → count p l ≡ 0 → all (λ a. not (p a)) l ≡ true
   unfolding all keep count
@@ -106,7 +89,7 @@ place-text : (r : ℕ) (w : What ℕ) → isSampleW w ≡ true → not (wideW r 
     → (32 ∷ digitsOf (placeW r w / 2 ^ 32) ++ (58 ∷ digitsOf (placeW r w % 2 ^ 32)) ≡ 32 ∷ digitsOf r ++ (58 ∷ digitsOf (itemW w)))
     × (length (32 ∷ digitsOf r ++ (58 ∷ digitsOf (itemW w))) ≤ 15)
 unfolding wideW
-place-text r (setEnd f o) s h = absurd-bool s
+place-text r (setEnd f o) s h = not-both false s refl
 place-text r (sample i) s h =
     let n = not-not (ltb r 256 && ltb i (2 ^ 32)) h in
     let a : r < 256 = ltb-true r 256 (and-left (ltb r 256) _ n) in

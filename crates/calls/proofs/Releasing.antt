@@ -1,67 +1,53 @@
 -- A release on the lent words is one on the rows of the lines, and what it prints has room.
 use Prim.Native.Nat.{ℕ, _+_, _*_, _≤_}
 use mathlib.Core.Path.{_≡_, refl, sym, ap, _∙_, subst}
-use mathlib.Core.Bool.{true, false, not, _||_, cond}
-use mathlib.Core.List.{List, [], _∷_, _++_, map}
+use mathlib.Core.Bool.{true, false, not, cond}
+use mathlib.Core.List.{List, _∷_, _++_, map}
 use mathlib.Core.Option.{some}
 use native.Mathlib.Omega.{arith}
-use borrow.Author.Tests.{ltb-false}
-use lib.Dec.{ltb}
 use lib.ListN.{length, take, drop, length-append, length-map}
-use lib.Seq.{take-all, take-at}
+use lib.Seq.{take-at}
 use Rattle.coherent_set.specs.Answer.{Answer, refused, answered}
 use Rattle.decimal.specs.Print.{digitsOf}
 use Rattle.group_order.specs.Lists.{all}
 use Rattle.group_order.specs.Entry.{Entry, isSample}
 use Rattle.group_order.specs.State.{State, Counts}
 use Rattle.group_order.specs.Offer.{refusal}
-use Rattle.group_order.specs.Release.{View, Outcome, malformed, releaseRefusal, release, workOf}
+use Rattle.group_order.specs.Release.{View, Outcome, releaseRefusal, release, workOf}
 use Rattle.group_order.specs.Run.{placeOf, saidRelease, written}
-use Rattle.group_order.proofs.Lists.{or-left, or-right, or-true-left}
 use Rattle.group_order.specs.Claim.{outcomeOf}
 use Rattle.group_order.proofs.Stays.{release-cases, released-stays}
 use Rattle.group_order.proofs.Conserve.{OnlySamples, only-samples}
 use Rattle.group_view.specs.View.{more, viewOf}
 use Rattle.history.specs.Store.{stateOf}
 use Rattle.history.specs.Calls.{countOut, releaseTo, releaseNoted}
-use Rattle.calls.specs.Line.{releases}
-use Rattle.calls.specs.Run.{Calls, withHistory, refusedText, samplesText, countsText, outText, releaseText, runCall}
+use Rattle.call_line.specs.Line.{releases}
+use Rattle.calls.specs.Run.{Calls, rowsOf, refusedText, samplesText, countsText, outText, releaseText, runCall}
 use Rattle.calls.specs.Said.{Said, placesText}
-use Rattle.calls.specs.Runs.{Stands, Ran}
-use Rattle.calls.proofs.Running.{said-told, number-long, refused-long}
+use Rattle.calls.specs.Runs.{StandRows, Stands, Ran}
+use Rattle.calls.proofs.Standing.{every-stands, history-stands}
+use Rattle.calls.proofs.Running.{ran-said, number-long, refused-long}
 use Rattle.calls.proofs.Places.{wide, out-narrow, places-text}
 
 -- what a release says: its count, the state, the lent list
 abbrev Told : Type 0
 Told = Answer ℕ × State ℕ × List ℕ
 
-unfoldable rowsOf : Calls → View
-rowsOf c = record { counted = c .counted; digests = c .digests }
+abbrev Says : Told → List ℕ → Answer (Outcome ℕ) × State ℕ → Type 0
+Says x l r = x ≡ (countOut (r .0), r .1, written (saidRelease (r .0)) l)
 
-module _ (c : Calls) (store view : List ℕ) (s : Stands c store view) (now : ℕ) (l : List ℕ) where
-  over-malformed : more view ≡ true → malformed (rowsOf c) ≡ true
-  unfolding malformed rowsOf
-  over-malformed e = or-true-left _ _ (or-true-left _ _ (sym (s .any-more) ∙ e))
+-- the release of the calls
+abbrev releaseOf : Calls → ℕ → Answer (Outcome ℕ) × State ℕ
+releaseOf c now = release (c .history) (rowsOf c) now 256
 
-  over : more view ≡ true → releaseTo (c .history) (rowsOf c) now l ≡ (refused 9, c .history, l)
-  unfolding releaseTo release releaseRefusal refusal
-  over e = rw (over-malformed e)
-
-  within : more view ≡ false → viewOf view ≡ rowsOf c
-  unfolding viewOf rowsOf
-  within e =
-      let f = sym (s .any-more) ∙ e in
-      let a : length (c .counted) ≤ 256 = ltb-false 256 (length (c .counted)) (or-left _ _ f) in
-      let b : length (c .digests) ≤ 8 = ltb-false 8 (length (c .digests)) (or-right (ltb 256 (length (c .counted))) _ f) in
-      rw (s .pairs, s .digests, take-all 256 (c .counted) a, take-all 8 (c .digests) b)
-
-  -- the release on the view is the one on the rows
-  stands-release : releaseNoted view (stateOf store) now l ≡ releaseTo (c .history) (rowsOf c) now l
-  unfolding releaseNoted
-  stands-release = (elim (more view) as (λ b. more view ≡ b → cond b (refused 9, stateOf store, l) (releaseTo (stateOf store) (viewOf view) now l) ≡ releaseTo (c .history) (rowsOf c) now l) [
-    | true ↦ λ e. ap (λ (t : State ℕ). (refused 9, t, l)) (s .history) ∙ sym (over e)
-    | false ↦ λ e. ap (λ (t : State ℕ). releaseTo t (viewOf view) now l) (s .history) ∙ ap (λ w. releaseTo (c .history) w now l) (within e)
-  ]) refl
+-- the release on the view is theirs
+stands-release : (now : ℕ) (l : List ℕ) {c : Calls} {store view : List ℕ} {x : Told} → Stands c store view → length l ≡ 256 → x ≡ releaseNoted view (stateOf store) now l → Says x l (releaseOf c now)
+unfolding releaseNoted releaseTo release releaseRefusal refusal
+stands-release now l {c} {store} {view} s j e =
+    e ∙ (elim (more view) as (λ b. StandRows b view c → cond b (refused 9, stateOf store, l) (releaseTo (stateOf store) (viewOf view) now l) ≡ (countOut (releaseOf c now .0), releaseOf c now .1, written (saidRelease (releaseOf c now .0)) l)) [
+      | true ↦ λ m. rw (s .history, m)
+      | false ↦ λ w. rw (s .history, w, j)
+    ]) (s .rows)
 
 -- ---- what is handed out
 
@@ -77,10 +63,10 @@ handed store v now room =
     (record { samples = released-stays OnlySamples only-samples (stateOf store) v now (refl, refl) .0; narrow = out-narrow store v now })
 
 -- the places of an answered release
-pub record Places (n : ℕ) (places : List ℕ) (l : List (Entry ℕ)) : Type 0 where
-  pub many : n ≤ 256
-  pub count : n ≡ length l
-  pub are : take n places ≡ map (λ e. placeOf e) l
+record Places (n : ℕ) (places : List ℕ) (l : List (Entry ℕ)) : Type 0 where
+  many : n ≤ 256
+  count : n ≡ length l
+  are : take n places ≡ map (λ e. placeOf e) l
 
 counts-long : (c : Counts) → length (countsText c) ≤ 86
 unfolding countsText
@@ -92,8 +78,8 @@ counts-long c =
     omega (arith, length-append (a ++ b ++ d) e, length-append (a ++ b) d, length-append a b, number-long (c .skipped), number-long (c .incomplete), number-long (c .discarded), number-long (c .late))
 
 -- an answered release: its count, its places and what is printed of them
-module _ (n : ℕ) (t : State ℕ) (places l : List ℕ) (j : length l ≡ 256) (k : length places ≡ 256) where
-  wrote : (a : Answer (Outcome ℕ)) (u : State ℕ) → _≡_ {A = Told} (answered n, t, places) (countOut a, u, written (saidRelease a) l) → Places n places (outcomeOf a .out)
+module _ (l : List ℕ) {n : ℕ} {t : State ℕ} {places : List ℕ} (k : length places ≡ 256) where
+  wrote : (a : Answer (Outcome ℕ)) (u : State ℕ) → Says (answered n, t, places) l (a, u) → Places n places (outcomeOf a .out)
   wrote (refused m) u e =
       let f : answered n ≡ refused m = ap (λ x. x .0) e in
       let z : _≡_ {A = ℕ} 0 1 = cc in
@@ -110,7 +96,7 @@ module _ (n : ℕ) (t : State ℕ) (places l : List ℕ) (j : length l ≡ 256) 
         are = ap (λ (x : List ℕ). take n x) p ∙ take-at (map (λ x. placeOf x) (r .out)) (drop (length (r .out)) l) n (m ∙ sym h);
       }
 
-  out-text : (a : Answer (Outcome ℕ)) (u : State ℕ) (c : Counts) → _≡_ {A = Told} (answered n, t, places) (countOut a, u, written (saidRelease a) l) → Handed (outcomeOf a .out)
+  out-text : (a : Answer (Outcome ℕ)) (u : State ℕ) (c : Counts) → Says (answered n, t, places) l (a, u) → Handed (outcomeOf a .out)
       → ((111 ∷ 117 ∷ 116 ∷ placesText (take n places) ++ countsText c) ≡ releaseText a c) × (length (placesText (take n places)) ≤ 15 * 256)
   unfolding outText
   out-text (refused m) u c e h =
@@ -123,48 +109,36 @@ module _ (n : ℕ) (t : State ℕ) (places l : List ℕ) (j : length l ≡ 256) 
       let p : placesText (take n places) ≡ samplesText (r .out) = ap (λ (x : List ℕ). placesText x) (w .are) ∙ b .0 in
       (ap (λ (x : List ℕ). 111 ∷ 117 ∷ 116 ∷ x ++ countsText c) p, omega (arith, ap length p, b .1, w .many, w .count))
 
-  -- the places fit the list
-  pub wrote-within : (v : List ℕ) (s : State ℕ) (now : ℕ) → _≡_ {A = Told} (answered n, t, places) (releaseNoted v s now l) → n ≤ 256
-  unfolding releaseNoted releaseTo
-  wrote-within v s now e = (elim (more v) as (λ b. _≡_ {A = Told} (answered n, t, places) (cond b (refused 9, s, l) (releaseTo s (viewOf v) now l)) → n ≤ 256) [
-    | true ↦ λ e.
-        let f : answered n ≡ refused 9 = ap (λ x. x .0) e in
-        let z : _≡_ {A = ℕ} 0 1 = cc in
-        absurd (omega arith)
-    | false ↦ λ e. wrote (release s (viewOf v) now (length l) .0) (release s (viewOf v) now (length l) .1) e .many
-  ]) e
+-- ---- a release run
 
-runs-release : (c : Calls) (now : ℕ) (l : List ℕ) → length l ≡ 256
-    → runCall c (releases now) ≡ (withHistory (release (c .history) (rowsOf c) now (length l) .1) c, releaseText (release (c .history) (rowsOf c) now (length l) .0) (release (c .history) (rowsOf c) now (length l) .1 .counts))
-unfolding runCall rowsOf
-runs-release c now l j = rw j
+ran-release : (l : List ℕ) {a : Answer ℕ} {now r : ℕ} {s store view store′ places out out′ : List ℕ}
+    → length l ≡ 256 → _≡_ {A = Told} (a, stateOf store′, places) (releaseNoted view (stateOf store) now l)
+    → Said 0 s r out out′ → length s ≤ length out
+    → ((c : Calls) → Stands c store view → Says (a, stateOf store′, places) l (releaseOf c now) → s ≡ releaseText (releaseOf c now .0) (releaseOf c now .1 .counts))
+    → Ran (some (releases now)) r store view out store′ view out′
+unfolding runCall
+ran-release l {now = now} j e x h g =
+    ran-said x h
+    (λ c s. history-stands (ap (λ y. y .1) (stands-release now l s j e)) s)
+    (λ c s. g c s (stands-release now l s j e))
+
+-- the places fit the list
+pub wrote-within : (l store view : List ℕ) (now : ℕ) {n : ℕ} {t : State ℕ} {places : List ℕ}
+    → length l ≡ 256 → length places ≡ 256 → _≡_ {A = Told} (answered n, t, places) (releaseNoted view (stateOf store) now l) → n ≤ 256
+wrote-within l store view now j k e =
+    let c = every-stands store view in
+    wrote l k (releaseOf (c .0) now .0) (releaseOf (c .0) now .1) (stands-release now l (c .1) j e) .many
 
 pub ran-released : (l : List ℕ) {n now r : ℕ} {k : Counts} {store view store′ places out out′ : List ℕ}
     → length l ≡ 256 → length places ≡ 256 → _≡_ {A = Told} (answered n, stateOf store′, places) (releaseNoted view (stateOf store) now l)
     → k ≡ stateOf store′ .counts → Said 0 (111 ∷ 117 ∷ 116 ∷ placesText (take n places) ++ countsText k) r out out′ → length out ≡ 4096
-    → Ran (some (releases now)) r store view store′ view out′
-unfolding withHistory releaseTo
-ran-released l {n} {now} {r} {k} {store} {view} {store′} {places} {out} {out′} j m e q x h =
-    let R : Calls → Answer (Outcome ℕ) × State ℕ = λ c. release (c .history) (rowsOf c) now (length l) in
-    let f : (c : Calls) → Stands c store view → _≡_ {A = Told} (answered n, stateOf store′, places) (countOut (R c .0), R c .1, written (saidRelease (R c .0)) l) = λ c s. e ∙ stands-release c store view s now l in
-    record {
-      state =
-          λ c s.
-          subst (λ (y : Calls × List ℕ). Stands (y .0) store′ view) (sym (runs-release c now l j)) (record {
-            history = ap (λ y. y .1) (f c s);
-            pairs = s .pairs;
-            digests = s .digests;
-            any-more = s .any-more;
-          });
-      text =
-          λ c s.
-          let g : Handed (outcomeOf (R c .0) .out) = subst (λ (y : State ℕ). Handed (outcomeOf (release y (rowsOf c) now (length l) .0) .out)) (s .history) (handed store (rowsOf c) now (length l)) in
-          let y = out-text n (stateOf store′) places l j m (R c .0) (R c .1) k (f c s) g in
-          said-told x (omega (arith, y .1, counts-long k, h, length-append (111 ∷ 117 ∷ 116 ∷ placesText (take n places)) (countsText k)))
-          ∙ y .0
-          ∙ ap (λ (z : Counts). releaseText (R c .0) z) (q ∙ ap (λ y. y .1 .counts) (f c s))
-          ∙ sym (ap (λ y. y .1) (runs-release c now l j));
-    }
+    → Ran (some (releases now)) r store view out store′ view out′
+ran-released l {n} {now} {r} {k} {store} {view} {store′} {places} j m e q x h =
+    let text : (c : Calls) → Stands c store view → ((111 ∷ 117 ∷ 116 ∷ placesText (take n places) ++ countsText k) ≡ releaseText (releaseOf c now .0) k) × (length (placesText (take n places)) ≤ 15 * 256) =
+    λ c s. out-text l m (releaseOf c now .0) (releaseOf c now .1) k (stands-release now l s j e) (subst (λ (y : State ℕ). Handed (outcomeOf (release y (rowsOf c) now 256 .0) .out)) (s .history) (handed store (rowsOf c) now 256)) in
+    let some-calls = every-stands store view in
+    ran-release l j e x (omega (arith, text (some-calls .0) (some-calls .1) .1, counts-long k, h, length-append (111 ∷ 117 ∷ 116 ∷ placesText (take n places)) (countsText k)))
+    (λ c s f. text c s .0 ∙ ap (λ (z : Counts). releaseText (releaseOf c now .0) z) (q ∙ ap (λ y. y .1 .counts) f))
 
 refusal-text : (n : ℕ) (a : Answer (Outcome ℕ)) (c : Counts) → refused n ≡ countOut a → refusedText n ≡ releaseText a c
 refusal-text n (refused m) c e = let h : n ≡ m = cc in ap refusedText h
@@ -173,19 +147,6 @@ refusal-text n (answered r) c e = let z : _≡_ {A = ℕ} 0 1 = cc in absurd (om
 pub ran-refused : (l : List ℕ) {n now r : ℕ} {store view store′ places out out′ : List ℕ}
     → length l ≡ 256 → _≡_ {A = Told} (refused n, stateOf store′, places) (releaseNoted view (stateOf store) now l)
     → Said 0 (refusedText n) r out out′ → length out ≡ 4096
-    → Ran (some (releases now)) r store view store′ view out′
-unfolding withHistory releaseTo
-ran-refused l {n} {now} {r} {store} {view} {store′} {places} {out} {out′} j e x h =
-    let R : Calls → Answer (Outcome ℕ) × State ℕ = λ c. release (c .history) (rowsOf c) now (length l) in
-    let f : (c : Calls) → Stands c store view → _≡_ {A = Told} (refused n, stateOf store′, places) (countOut (R c .0), R c .1, written (saidRelease (R c .0)) l) = λ c s. e ∙ stands-release c store view s now l in
-    record {
-      state =
-          λ c s.
-          subst (λ (y : Calls × List ℕ). Stands (y .0) store′ view) (sym (runs-release c now l j)) (record {
-            history = ap (λ y. y .1) (f c s);
-            pairs = s .pairs;
-            digests = s .digests;
-            any-more = s .any-more;
-          });
-      text = λ c s. said-told x (omega (arith, refused-long n, h)) ∙ refusal-text n (R c .0) (R c .1 .counts) (ap (λ y. y .0) (f c s)) ∙ sym (ap (λ y. y .1) (runs-release c now l j));
-    }
+    → Ran (some (releases now)) r store view out store′ view out′
+ran-refused l {n} {now} j e x h =
+    ran-release l j e x (omega (arith, refused-long n, h)) (λ c s f. refusal-text n (releaseOf c now .0) (releaseOf c now .1 .counts) (ap (λ y. y .0) f))

@@ -1,28 +1,27 @@
 -- Laws of a line run on the lent words.
 use Prim.{Unit}
-use Prim.Native.Nat.{ℕ, zero, suc, _+_, _*_, _/_, _%_, _^_, _≤_, _<_}
+use Prim.Native.Nat.{ℕ, zero, suc, _+_, _/_, _%_, _^_, _≤_, _<_}
 use mathlib.Core.Path.{_≡_, refl, sym, ap, _∙_, subst}
-use mathlib.Core.Bool.{Bool, true, false, not, _||_}
-use mathlib.Core.List.{List, [], _∷_, _++_}
+use mathlib.Core.Bool.{Bool, true, false}
+use mathlib.Core.List.{List, [], _∷_}
 use mathlib.Core.Option.{Option, none, some}
 use native.Mathlib.Omega.{arith}
-use borrow.Author.Tests.{le-leb, lt-ltb}
+use borrow.Author.Tests.{lt-ltb}
 use lib.Dec.{ltb}
-use lib.ListN.{length, take, drop, length-append}
-use lib.Seq.{take-append-seam}
+use lib.ListN.{length, length-append}
 use Rattle.coherent_set.specs.Answer.{Answer, refused, answered}
-use Rattle.decimal.specs.Print.{oneOr, digitsIn, digitsOf, fits, putBy, putAt}
+use Rattle.decimal.specs.Print.{oneOr, digitsIn, digitsOf, putAt}
 use Rattle.group_order.specs.State.{State, fresh}
 use Rattle.group_order.specs.Offer.{Fate, isStored, isJoined, isLate}
-use Rattle.group_view.specs.View.{pairAs, digestRowAs, pairsOf, digestsOf, more, Cleared, Noted, NotedDigest}
+use Rattle.group_view.specs.View.{pairAs, digestRowAs, Cleared, Noted, NotedDigest}
 use Rattle.group_view.specs.declared.view.Pair as P
 use Rattle.group_view.specs.declared.view.DigestRow as D
-use Rattle.group_view.proofs.Noting.{take-next, over-next}
 use Rattle.history.specs.Store.{stateOf}
-use Rattle.calls.specs.Line.{Line, starts, counts, digests}
-use Rattle.calls.specs.Run.{Calls, afresh, withHistory, bad, ok, refusedText, offerText, doneText, runCall}
+use Rattle.call_line.specs.Line.{Line, starts, counts, digests}
+use Rattle.calls.specs.Run.{Calls, withHistory, bad, ok, refusedText, offerText, doneText, runCall, runIf}
 use Rattle.calls.specs.Said.{Said}
 use Rattle.calls.specs.Runs.{Stands, Ran}
+use Rattle.calls.proofs.Standing.{afresh-stands, history-stands, counted-stands, digest-stands}
 
 -- ---- how long a text is
 
@@ -70,99 +69,58 @@ pub done-long : (a : Answer (Unit {0})) → length (doneText a) ≤ 28
 done-long (refused n) = refused-long n
 done-long (answered u) = omega arith
 
--- ---- what is said at the front is the text
+-- ---- a line is run: its text is said at the front of out
 
-pub said-told : {r : ℕ} {s out out′ : List ℕ} → Said 0 s r out out′ → length s ≤ length out → take r out′ ≡ s
-unfolding fits putBy putAt
-said-told {r} {s} {out} {out′} x h =
-    let z : 0 + length s ≡ length s = omega arith in
-    let k : 0 + length s ≤ length out = omega arith in
-    let f = x .is k in
-    let p : putAt out 0 s ≡ s ++ drop (0 + length s) out = rw (le-leb (0 + length s) (length out) k) in
-    ap (λ (m : ℕ). take m out′) (f .0 ∙ z) ∙ ap (λ (l : List ℕ). take (length s) l) (f .1 ∙ p) ∙ take-append-seam s (drop (0 + length s) out)
+pub ran-said : {l : Option Line} {r : ℕ} {s store view out store′ view′ out′ : List ℕ}
+    → Said 0 s r out out′ → length s ≤ length out
+    → ((c : Calls) → Stands c store view → Stands (runIf c l .0) store′ view′) → ((c : Calls) → Stands c store view → s ≡ runIf c l .1)
+    → Ran l r store view out store′ view′ out′
+ran-said {l} {r} {s} {store} {view} {out} x h f g =
+    let y = x .is (omega arith) in
+    record {
+      state = f;
+      fits = λ c t. omega (arith, ap length (g c t));
+      count = λ c t. omega (arith, y .0, ap length (g c t));
+      text = λ c t. y .1 ∙ ap (λ (k : List ℕ). putAt out 0 k) (g c t);
+    }
 
--- ---- a call of the history leaves the rows
+pub ran-bad : {r : ℕ} {store view out out′ : List ℕ} → Said 0 bad r out out′ → length out ≡ 4096 → Ran none r store view out store view out′
+ran-bad x h = ran-said x (omega arith) (λ c s. s) (λ c s. refl)
 
+-- a call of the history
 pub ran-history : {A : Type 0} (l : Line) (f : State ℕ → Answer A × State ℕ) (text : Answer A → List ℕ)
     → ((c : Calls) → runCall c l ≡ (withHistory (f (c .history) .1) c, text (f (c .history) .0)))
     → {a : Answer A} {r : ℕ} {store view store′ out out′ : List ℕ}
     → (a, stateOf store′) ≡ f (stateOf store) → Said 0 (text a) r out out′ → length (text a) ≤ length out
-    → Ran (some l) r store view store′ view out′
-unfolding withHistory
-ran-history l f text runs {a} {r} {store} {view} {store′} {out} {out′} e x h = record {
-  state =
-      λ c s.
-      subst (λ (y : Calls × List ℕ). Stands (y .0) store′ view) (sym (runs c)) (record {
-        history = ap (λ y. y .1) e ∙ ap (λ y. f y .1) (s .history);
-        pairs = s .pairs;
-        digests = s .digests;
-        any-more = s .any-more;
-      });
-  text = λ c s. said-told x h ∙ ap text (ap (λ y. y .0) e ∙ ap (λ y. f y .0) (s .history)) ∙ sym (ap (λ y. y .1) (runs c));
-}
+    → Ran (some l) r store view out store′ view out′
+ran-history l f text runs {a} {r} {store} {view} {store′} e x h =
+    ran-said x h
+    (λ c s. subst (λ (y : Calls × List ℕ). Stands (y .0) store′ view) (sym (runs c)) (history-stands (ap (λ y. y .1) e ∙ ap (λ y. f y .1) (s .history)) s))
+    (λ c s. ap text (ap (λ y. y .0) e ∙ ap (λ y. f y .0) (s .history)) ∙ sym (ap (λ y. y .1) (runs c)))
 
--- ---- the rows
+-- the rows
 
 pub ran-start : {t r : ℕ} {store view store′ view′ out out′ : List ℕ}
-    → stateOf store′ ≡ fresh t → Cleared view′ → Said 0 ok r out out′ → length out ≡ 4096 → Ran (some (starts t)) r store view store′ view′ out′
-unfolding runCall afresh
-ran-start e v x h = record {
-  state = λ c s. record { history = e; pairs = v .pairs; digests = v .digests; any-more = v .none-more };
-  text = λ c s. said-told x (omega arith);
-}
-
-or-swap : (a b n : Bool) → (a || b) || n ≡ (a || n) || b
-or-swap true b n = refl
-or-swap false true true = refl
-or-swap false true false = refl
-or-swap false false true = refl
-or-swap false false false = refl
-
-or-assoc : (a b n : Bool) → (a || b) || n ≡ a || (b || n)
-or-assoc true b n = refl
-or-assoc false b n = refl
+    → stateOf store′ ≡ fresh t → Cleared view′ → Said 0 ok r out out′ → length out ≡ 4096 → Ran (some (starts t)) r store view out store′ view′ out′
+unfolding runCall
+ran-start e v x h = ran-said x (omega arith) (λ c s. afresh-stands _ e v) (λ c s. refl)
 
 pub ran-counted : {p : P.Pair} {r : ℕ} {store view view′ out out′ : List ℕ}
-    → Noted p view view′ → Said 0 ok r out out′ → length out ≡ 4096 → Ran (some (counts (pairAs p))) r store view store view′ out′
+    → Noted p view view′ → Said 0 ok r out out′ → length out ≡ 4096 → Ran (some (counts (pairAs p))) r store view out store view′ out′
 unfolding runCall
-ran-counted {p} {r} {store} {view} {view′} n x h = record {
-  state =
-      λ c s. record {
-        history = s .history;
-        pairs = n .pairs ∙ rw (s .pairs) (take-next 256 (c .counted) (pairAs p));
-        digests = n .digests ∙ s .digests;
-        any-more =
-            n .any-more
-            ∙ rw (s .pairs, s .any-more) (or-swap (ltb 256 (length (c .counted))) (ltb 8 (length (c .digests))) (not (ltb (length (take 256 (c .counted))) 256)))
-            ∙ ap (λ b. b || ltb 8 (length (c .digests))) (over-next 256 (c .counted) (pairAs p));
-      };
-  text = λ c s. said-told x (omega arith);
-}
+ran-counted n x h = ran-said x (omega arith) (λ c s. counted-stands n s) (λ c s. refl)
 
 pub ran-digest : {d : D.DigestRow} {r : ℕ} {store view view′ out out′ : List ℕ}
-    → NotedDigest d view view′ → Said 0 ok r out out′ → length out ≡ 4096 → Ran (some (digests (digestRowAs d))) r store view store view′ out′
+    → NotedDigest d view view′ → Said 0 ok r out out′ → length out ≡ 4096 → Ran (some (digests (digestRowAs d))) r store view out store view′ out′
 unfolding runCall
-ran-digest {d} {r} {store} {view} {view′} n x h = record {
-  state =
-      λ c s. record {
-        history = s .history;
-        pairs = n .pairs ∙ s .pairs;
-        digests = n .digests ∙ rw (s .digests) (take-next 8 (c .digests) (digestRowAs d));
-        any-more =
-            n .any-more
-            ∙ rw (s .digests, s .any-more) (or-assoc (ltb 256 (length (c .counted))) (ltb 8 (length (c .digests))) (not (ltb (length (take 8 (c .digests))) 8)))
-            ∙ ap (λ b. ltb 256 (length (c .counted)) || b) (over-next 8 (c .digests) (digestRowAs d));
-      };
-  text = λ c s. said-told x (omega arith);
-}
+ran-digest n x h = ran-said x (omega arith) (λ c s. digest-stands n s) (λ c s. refl)
+
+-- ---- the line that was read
+
+pub ran-line : {l k : Option Line} {r : ℕ} {store view out store′ view′ out′ : List ℕ} → l ≡ k → Ran l r store view out store′ view′ out′ → Ran k r store view out store′ view′ out′
+ran-line {l} {k} {r} {store} {view} {out} {store′} {view′} {out′} e h = subst (λ a. Ran a r store view out store′ view′ out′) e h
 
 -- the line of the records that the call took
-pub ran-as : {A : Type 0} (l : A → Line) {x y : A} {r : ℕ} {store view store′ view′ out′ : List ℕ}
-    → x ≡ y → Ran (some (l x)) r store view store′ view′ out′ → Ran (some (l y)) r store view store′ view′ out′
-ran-as l {x} {y} {r} {store} {view} {store′} {view′} {out′} e h = subst (λ a. Ran (some (l a)) r store view store′ view′ out′) e h
-
-pub ran-bad : {r : ℕ} {store view out out′ : List ℕ} → Said 0 bad r out out′ → length out ≡ 4096 → Ran none r store view store view out′
-ran-bad x h = record { state = λ c s. s; text = λ c s. said-told x (omega arith) }
-
-pub ran-line : {l k : Option Line} {r : ℕ} {store view store′ view′ out′ : List ℕ} → l ≡ k → Ran l r store view store′ view′ out′ → Ran k r store view store′ view′ out′
-ran-line {l} {k} {r} {store} {view} {store′} {view′} {out′} e h = subst (λ a. Ran a r store view store′ view′ out′) e h
+pub ran-as : {A : Type 0} (l : A → Line) {x y : A} {r : ℕ} {store view out store′ view′ out′ : List ℕ}
+    → x ≡ y → Ran (some (l x)) r store view out store′ view′ out′ → Ran (some (l y)) r store view out store′ view′ out′
+ran-as l e h = ran-line (ap (λ a. some (l a)) e) h

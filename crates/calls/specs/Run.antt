@@ -13,8 +13,8 @@ use Rattle.group_order.specs.State.{State, Counts, fresh}
 use Rattle.group_order.specs.Offer.{Fate, isStored, isJoined, isLate, offer, heartbeat, gap}
 use Rattle.group_order.specs.Sets.{Pair}
 use Rattle.group_order.specs.Commit.{DigestRow}
-use Rattle.group_order.specs.Release.{Outcome, release}
-use Rattle.calls.specs.Line.{Line, starts, counts, digests, offers, heartbeats, gaps, releases, lengthen, lineOf}
+use Rattle.group_order.specs.Release.{View, Outcome, release}
+use Rattle.call_line.specs.Line.{Line, starts, counts, digests, offers, heartbeats, gaps, releases, lengthen, lineOf}
 
 -- the history, and the rows for its next releases
 pub record Calls : Type 0 where
@@ -28,6 +28,9 @@ afresh t = record { history = fresh t; counted = []; digests = [] }
 -- before any `T` the timeout is 1000000000
 unfoldable pub begun : Calls
 begun = afresh 1000000000
+
+unfoldable pub rowsOf : Calls → View
+rowsOf c = record { counted = c .counted; digests = c .digests }
 
 unfoldable pub withHistory : State ℕ → Calls → Calls
 withHistory s c = record { history = s; counted = c .counted; digests = c .digests }
@@ -96,7 +99,7 @@ runCall c (offers o) = let r = offer (c .history) o in (withHistory (r .1) c, of
 runCall c (heartbeats h) = let r = heartbeat (c .history) h in (withHistory (r .1) c, doneText (r .0))
 runCall c (gaps g) = let r = gap (c .history) g in (withHistory (r .1) c, doneText (r .0))
 runCall c (releases now) =
-    let r = release (c .history) (record { counted = c .counted; digests = c .digests }) now 256 in
+    let r = release (c .history) (rowsOf c) now 256 in
     (withHistory (r .1) c, releaseText (r .0) (r .1 .counts))
 
 abbrev pub runIf : Calls → Option Line → Calls × List ℕ

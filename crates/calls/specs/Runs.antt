@@ -1,24 +1,43 @@
--- What the lent words stand for between lines, and a line run on them.
-use Prim.Native.Nat.{ℕ}
+-- What the lent words stand for between lines, and a line or a whole text run on them.
+use Prim.Native.Nat.{ℕ, _+_, _-_, _≤_, min}
 use mathlib.Core.Path.{_≡_}
-use mathlib.Core.Bool.{_||_}
-use mathlib.Core.List.{List}
+use mathlib.Core.Bool.{Bool, true, false}
+use mathlib.Core.List.{List, [], _∷_, _++_}
 use mathlib.Core.Option.{Option}
-use lib.Dec.{ltb}
-use lib.ListN.{length, take}
+use lib.ListN.{length, take, drop}
+use Rattle.decimal.specs.Print.{putAt}
+use Rattle.group_order.specs.Release.{malformed}
 use Rattle.history.specs.Store.{stateOf}
-use Rattle.group_view.specs.View.{pairsOf, digestsOf, more}
-use Rattle.calls.specs.Line.{Line}
-use Rattle.calls.specs.Run.{Calls, runIf}
+use Rattle.group_view.specs.View.{more, viewOf}
+use Rattle.call_line.specs.Line.{Line}
+use Rattle.calls.specs.Run.{Calls, rowsOf, runIf, runLine, runText}
 
--- the view holds the first 256 counted rows and the first 8 digest rows, and whether there were more
+-- the rows of the view, by whether there were more than it holds: then it only matters that a release is refused
+abbrev pub StandRows : Bool → List ℕ → Calls → Type 0
+StandRows false view c = viewOf view ≡ rowsOf c
+StandRows true view c = malformed (rowsOf c) ≡ true
+
+-- all words stand for some calls (proofs/Standing.antt)
 pub record Stands (c : Calls) (store view : List ℕ) : Type 0 where
   pub history : stateOf store ≡ c .history
-  pub pairs : pairsOf view ≡ take 256 (c .counted)
-  pub digests : digestsOf view ≡ take 8 (c .digests)
-  pub any-more : more view ≡ (ltb 256 (length (c .counted)) || ltb 8 (length (c .digests)))
+  pub rows : StandRows (more view) view c
 
--- the words stand for the calls after the line, and the first r bytes are what it prints
-pub record Ran (l : Option Line) (r : ℕ) (store view store′ view′ out′ : List ℕ) : Type 0 where
+-- the words stand for the calls after the line; what it prints is put at the front of out, and r is its length
+pub record Ran (l : Option Line) (r : ℕ) (store view out store′ view′ out′ : List ℕ) : Type 0 where
   pub state : (c : Calls) → Stands c store view → Stands (runIf c l .0) store′ view′
-  pub text : (c : Calls) → Stands c store view → take r out′ ≡ runIf c l .1
+  pub fits : (c : Calls) → Stands c store view → length (runIf c l .1) ≤ length out
+  pub count : (c : Calls) → Stands c store view → r ≡ length (runIf c l .1)
+  pub text : (c : Calls) → Stands c store view → out′ ≡ putAt out 0 (runIf c l .1)
+
+-- text put into out from `at` on, as far as out has room: the place behind it, and out
+unfoldable pub putOn : List ℕ → ℕ → List ℕ → ℕ × List ℕ
+putOn out at s = (at + min (length s) (length out - at), take at out ++ (take (length out - at) s ++ drop (at + length s) out))
+
+-- a line run, its answer and a newline put into out from `at` on
+pub record RanOn (line : List ℕ) (at r : ℕ) (store view out store′ view′ out′ : List ℕ) : Type 0 where
+  pub state : (c : Calls) → Stands c store view → Stands (runLine c line .0) store′ view′
+  pub text : (c : Calls) → Stands c store view → (r, out′) ≡ putOn out at (runLine c line .1 ++ (10 ∷ []))
+
+-- the answers of a text put at the front of out, as far as out has room: how many bytes of them are there, and out
+unfoldable pub ranText : List ℕ → List ℕ → ℕ × List ℕ
+ranText s out = putOn out 0 (runText s)

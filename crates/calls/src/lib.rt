@@ -1,6 +1,4 @@
-// The call list of document 01: what its lines spell, do and print.
-mod field;
-pub mod line;
-pub mod parse;
-mod run;
+// The call list of document 01: what its lines do and print.
+pub mod list;
+pub mod run;
 mod say;

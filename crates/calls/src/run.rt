@@ -1,17 +1,17 @@
 // A line of the call list, run.
-use crate::line::LineDigest;
-use crate::line::LineGap;
-use crate::line::LineHeartbeat;
-use crate::line::LineOffer;
-use crate::line::LinePair;
-use crate::parse::Parsed;
-use crate::parse::parse;
 use crate::say::say_accepted;
 use crate::say::say_bad;
 use crate::say::say_offered;
 use crate::say::say_ok;
 use crate::say::say_refused;
 use crate::say::say_released;
+use call_line::line::LineDigest;
+use call_line::line::LineGap;
+use call_line::line::LineHeartbeat;
+use call_line::line::LineOffer;
+use call_line::line::LinePair;
+use call_line::parse::Parsed;
+use call_line::parse::parse;
 use group_view::view::clear;
 use group_view::view::note_digest;
 use group_view::view::note_pair;
@@ -21,8 +21,8 @@ use history::release::release_noted;
 ghost use mathlib.Core.Path.{_≡_};
 ghost use mathlib.Core.Option.{some, none};
 ghost use lib.ListN.{length};
-ghost use Rattle.calls.specs.Line.{starts, counts, digests, offers, heartbeats, gaps, releases, lineOf};
-ghost use Rattle.calls.specs.Parsed.{pairOf, digestRowOf, offerOf, heartbeatOf, gapOf, parsedAs};
+ghost use Rattle.call_line.specs.Line.{starts, counts, digests, offers, heartbeats, gaps, releases, lineOf};
+ghost use Rattle.call_line.specs.Parsed.{pairOf, digestRowOf, offerOf, heartbeatOf, gapOf, parsedAs};
 ghost use Rattle.calls.specs.Runs.{Ran};
 
 fn size(s: &[u8]) -> usize
@@ -44,7 +44,7 @@ fn run_start(
     timeout: u64,
     out: &mut [u8; 4096],
 ) -> usize
-    ensures { λ r. ⌜ Ran (some (starts timeout)) r (now (store .entry)) (now (view .entry)) (now (store .exit)) (now (view .exit)) (now (out .exit)) ⌝ }
+    ensures { λ r. ⌜ Ran (some (starts timeout)) r (now (store .entry)) (now (view .entry)) (now (out .entry)) (now (store .exit)) (now (view .exit)) (now (out .exit)) ⌝ }
 {
     whole(out);
     let fresh = GroupOrder::new(timeout);
@@ -60,7 +60,7 @@ fn run_counted(
     row: LinePair,
     out: &mut [u8; 4096],
 ) -> usize
-    ensures { λ r. ⌜ Ran (some (counts (pairOf row))) r (now (store .entry)) (now (view .entry)) (now (store .exit)) (now (view .exit)) (now (out .exit)) ⌝ }
+    ensures { λ r. ⌜ Ran (some (counts (pairOf row))) r (now (store .entry)) (now (view .entry)) (now (out .entry)) (now (store .exit)) (now (view .exit)) (now (out .exit)) ⌝ }
 {
     whole(out);
     note_pair(view, row.row());
@@ -73,7 +73,7 @@ fn run_digest(
     row: LineDigest,
     out: &mut [u8; 4096],
 ) -> usize
-    ensures { λ r. ⌜ Ran (some (digests (digestRowOf row))) r (now (store .entry)) (now (view .entry)) (now (store .exit)) (now (view .exit)) (now (out .exit)) ⌝ }
+    ensures { λ r. ⌜ Ran (some (digests (digestRowOf row))) r (now (store .entry)) (now (view .entry)) (now (out .entry)) (now (store .exit)) (now (view .exit)) (now (out .exit)) ⌝ }
 {
     whole(out);
     note_digest(view, row.row());
@@ -86,7 +86,7 @@ fn run_offer(
     o: LineOffer,
     out: &mut [u8; 4096],
 ) -> usize
-    ensures { λ r. ⌜ Ran (some (offers (offerOf o))) r (now (store .entry)) (now (view .entry)) (now (store .exit)) (now (view .exit)) (now (out .exit)) ⌝ }
+    ensures { λ r. ⌜ Ran (some (offers (offerOf o))) r (now (store .entry)) (now (view .entry)) (now (out .entry)) (now (store .exit)) (now (view .exit)) (now (out .exit)) ⌝ }
 {
     whole(out);
     let answer = GroupOrder::offer(store, o.offer());
@@ -99,7 +99,7 @@ fn run_heartbeat(
     h: LineHeartbeat,
     out: &mut [u8; 4096],
 ) -> usize
-    ensures { λ r. ⌜ Ran (some (heartbeats (heartbeatOf h))) r (now (store .entry)) (now (view .entry)) (now (store .exit)) (now (view .exit)) (now (out .exit)) ⌝ }
+    ensures { λ r. ⌜ Ran (some (heartbeats (heartbeatOf h))) r (now (store .entry)) (now (view .entry)) (now (out .entry)) (now (store .exit)) (now (view .exit)) (now (out .exit)) ⌝ }
 {
     whole(out);
     let answer = GroupOrder::heartbeat(store, h.heartbeat());
@@ -112,7 +112,7 @@ fn run_gap(
     g: LineGap,
     out: &mut [u8; 4096],
 ) -> usize
-    ensures { λ r. ⌜ Ran (some (gaps (gapOf g))) r (now (store .entry)) (now (view .entry)) (now (store .exit)) (now (view .exit)) (now (out .exit)) ⌝ }
+    ensures { λ r. ⌜ Ran (some (gaps (gapOf g))) r (now (store .entry)) (now (view .entry)) (now (out .entry)) (now (store .exit)) (now (view .exit)) (now (out .exit)) ⌝ }
 {
     whole(out);
     let answer = GroupOrder::gap(store, g.gap());
@@ -125,7 +125,7 @@ fn run_release(
     time: u64,
     out: &mut [u8; 4096],
 ) -> usize
-    ensures { λ r. ⌜ Ran (some (releases time)) r (now (store .entry)) (now (view .entry)) (now (store .exit)) (now (view .exit)) (now (out .exit)) ⌝ }
+    ensures { λ r. ⌜ Ran (some (releases time)) r (now (store .entry)) (now (view .entry)) (now (out .entry)) (now (store .exit)) (now (view .exit)) (now (out .exit)) ⌝ }
 {
     whole(out);
     let mut places = [0u64; 256];
@@ -141,20 +141,20 @@ fn run_release(
 }
 
 fn run_bad(store: &mut [u64; 6984], view: &mut [u64; 1307], out: &mut [u8; 4096]) -> usize
-    ensures { λ r. ⌜ Ran none r (now (store .entry)) (now (view .entry)) (now (store .exit)) (now (view .exit)) (now (out .exit)) ⌝ }
+    ensures { λ r. ⌜ Ran none r (now (store .entry)) (now (view .entry)) (now (out .entry)) (now (store .exit)) (now (view .exit)) (now (out .exit)) ⌝ }
 {
     whole(out);
     say_bad(out, 0)
 }
 
-// Runs a line: the words stand for the calls after it, and the answer is how many bytes it prints.
+// Runs a line: the words stand for the calls after it, and out's first bytes, as many as the answer says, are what it prints.
 pub fn run_line(
     store: &mut [u64; 6984],
     view: &mut [u64; 1307],
     line: &[u8],
     out: &mut [u8; 4096],
 ) -> usize
-    ensures { λ r. ⌜ Ran (lineOf (now (line .entry))) r (now (store .entry)) (now (view .entry)) (now (store .exit)) (now (view .exit)) (now (out .exit)) ⌝ }
+    ensures { λ r. ⌜ Ran (lineOf (now (line .entry))) r (now (store .entry)) (now (view .entry)) (now (out .entry)) (now (store .exit)) (now (view .exit)) (now (out .exit)) ⌝ }
 {
     let parsed = parse(line);
     match parsed {

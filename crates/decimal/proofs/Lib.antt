@@ -1,4 +1,4 @@
 mod Reading
-mod Splitting
+pub mod Splitting
 mod Printing
 pub mod Laws

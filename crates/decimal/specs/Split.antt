@@ -9,10 +9,10 @@ unfoldable pub stopOr : Bool → ℕ → ℕ
 stopOr true n = 0
 stopOr false n = suc n
 
--- how many bytes stand before the first space, 32
-unfoldable pub beforeSpace : List ℕ → ℕ
-beforeSpace [] = 0
-beforeSpace (b ∷ s) = stopOr (eqb b 32) (beforeSpace s)
+-- how many bytes stand before the first byte that is `stop`
+unfoldable pub before : ℕ → List ℕ → ℕ
+before stop [] = 0
+before stop (b ∷ s) = stopOr (eqb b stop) (before stop s)
 
-unfoldable pub fieldEnd : List ℕ → ℕ → ℕ
-fieldEnd s at = min at (length s) + beforeSpace (drop at s)
+unfoldable pub fieldEnd : ℕ → List ℕ → ℕ → ℕ
+fieldEnd stop s at = min at (length s) + before stop (drop at s)

@@ -63,16 +63,16 @@ pub fn read_signed(s: &[u8]) -> Signed
     }
 }
 
-// The index of the first space at or after at, or s's length where there is none.
-pub fn field_end(s: &[u8], at: usize) -> usize
-    ensures { λ r. ⌜ r ≡ fieldEnd (now (s .entry)) at ⌝ }
+// The index of the first byte at or after at that is `stop`, or s's length where there is none.
+pub fn field_end(s: &[u8], at: usize, stop: u8) -> usize
+    ensures { λ r. ⌜ r ≡ fieldEnd stop (now (s .entry)) at ⌝ }
 {
     if s.len() <= at {
         return s.len();
     }
     let mut i = at;
     while i < s.len() {
-        if s[i] == b' ' {
+        if s[i] == stop {
             return i;
         }
         i += 1;

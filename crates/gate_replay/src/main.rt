@@ -8,26 +8,27 @@
 // An answer is `out`, each item written as kind:writer:set:item, `|`, the member number of the incomplete set or `-`, and
 // how many members are held then. Access is 0 or 1; writer k is fifteen zero bytes and k; set, own and complete may be `-`,
 // absent; places are whole items of the lent list. Any other line is `bad`. Before the first line the hold is empty.
+use coherent_hold::gate::CoherentHold;
+use coherent_hold::gate::CoherentSetEnd;
+use coherent_hold::gate::Flag;
+use coherent_hold::gate::GateAnswer;
+use coherent_hold::gate::Gated;
+use coherent_hold::gate::Item;
+use coherent_hold::gate::Kind;
 use decimal::Put;
 use decimal::Signed;
 use decimal::Unsigned;
 use history::entry::Optional;
-use libc::STDIN_FILENO;
 use libc::STDOUT_FILENO;
-use presentation::gate::CoherentHold;
-use presentation::gate::CoherentSetEnd;
-use presentation::gate::Flag;
-use presentation::gate::GateAnswer;
-use presentation::gate::Gated;
-use presentation::gate::Item;
-use presentation::gate::Kind;
+use line_input::begin;
+use line_input::next_line;
 ghost use Prim.Native.Nat.{_≤_};
 
 // Room for every answer: 65 items of 38 bytes.
 type Out = [u8; 2560];
 
-// Room for every good line.
-type Line = [u8; 64];
+// No good line has more than 60 bytes, so one that is cut to fit is bad, as it was.
+type Line = [u8; 256];
 
 // The hold after a call, and how many bytes of the answer there are.
 struct Answer {
@@ -35,23 +36,10 @@ struct Answer {
     length: usize,
 }
 
-// The hold between two bytes of the input, and how many bytes of a line are there.
-struct Place {
-    hold: CoherentHold,
-    length: usize,
-}
-
-// A read of the input: where it leads, and whether there may be more.
-struct Turn {
-    place: Place,
-    more: bool,
-}
-
 // A signed field that may be absent.
 enum Field {
+    Value(Optional),
     Bad,
-    Absent,
-    Value(i64),
 }
 
 // The fields that every call has; the number is a set mark or an end's own number.
@@ -64,12 +52,12 @@ struct Call {
 
 // ---- fields
 
-// Where the field after the one that ends at `end` begins. No good line has 64 bytes.
+// Where the field after the one that ends at `end` begins. No line has more than 256 bytes.
 fn after(end: usize) -> usize {
-    if end < 64 {
+    if end < 256 {
         return end + 1;
     }
-    64
+    256
 }
 
 // The number between two places of a line, if it is below `bound`.
@@ -110,7 +98,7 @@ fn is_dash(line: &[u8], from: usize, end: usize) -> bool {
 
 fn read_optional(line: &[u8], from: usize, end: usize) -> Field {
     if is_dash(line, from, end) {
-        return Field::Absent;
+        return Field::Value(Optional::Absent);
     }
     if end < from {
         return Field::Bad;
@@ -120,7 +108,7 @@ fn read_optional(line: &[u8], from: usize, end: usize) -> Field {
     }
     let number = decimal::read_signed(&line[from..end]);
     match number {
-        Signed::Value(x) => Field::Value(x),
+        Signed::Value(x) => Field::Value(Optional::Present(x)),
         Signed::Bad => Field::Bad,
     }
 }
@@ -276,13 +264,17 @@ fn run_item(
     }
 }
 
+// The item stands between two places of the line.
 fn run_change(
     hold: CoherentHold,
     call: Call,
     kind: Kind,
-    number: Unsigned,
+    line: &[u8],
+    from: usize,
+    end: usize,
     out: &mut Out,
 ) -> Answer {
+    let number = read_below(line, from, end, 4294967296);
     let Unsigned::Value(item) = number else {
         return say_bad(hold, out);
     };
@@ -329,20 +321,8 @@ fn run_kind(
     out: &mut Out,
 ) -> Answer {
     match kind {
-        b'S' => run_change(
-            hold,
-            call,
-            Kind::Sample,
-            read_below(line, from, end, 4294967296),
-            out,
-        ),
-        b'L' => run_change(
-            hold,
-            call,
-            Kind::Lifecycle,
-            read_below(line, from, end, 4294967296),
-            out,
-        ),
+        b'S' => run_change(hold, call, Kind::Sample, line, from, end, out),
+        b'L' => run_change(hold, call, Kind::Lifecycle, line, from, end, out),
         b'E' => run_flag(hold, call, line, from, end, out),
         _ => say_bad(hold, out),
     }
@@ -350,13 +330,13 @@ fn run_kind(
 
 // A call with fields, which are read before anything is changed.
 fn run_fields(hold: CoherentHold, kind: u8, line: &[u8], out: &mut Out) -> Answer {
-    let first = decimal::field_end(line, 2);
-    let second = decimal::field_end(line, after(first));
-    let third = decimal::field_end(line, after(second));
-    let fourth = decimal::field_end(line, after(third));
+    let first = decimal::field_end(line, 2, b' ');
+    let second = decimal::field_end(line, after(first), b' ');
+    let third = decimal::field_end(line, after(second), b' ');
+    let fourth = decimal::field_end(line, after(third), b' ');
     let flag = read_below(line, 2, first, 2);
     let writer = read_below(line, after(first), second, 256);
-    let number = read_optional(line, after(second), third);
+    let signed = read_optional(line, after(second), third);
     let room = read_number(line, after(fourth), line.len());
     let Unsigned::Value(on) = flag else {
         return say_bad(hold, out);
@@ -367,31 +347,17 @@ fn run_fields(hold: CoherentHold, kind: u8, line: &[u8], out: &mut Out) -> Answe
     let Unsigned::Value(places) = room else {
         return say_bad(hold, out);
     };
-    let access = on == 1;
+    let Field::Value(number) = signed else {
+        return say_bad(hold, out);
+    };
     let writer = guid(k);
-    match number {
-        Field::Bad => say_bad(hold, out),
-        Field::Absent => {
-            let number = Optional::Absent;
-            let call = Call {
-                access,
-                writer,
-                number,
-                places,
-            };
-            run_kind(hold, kind, call, line, after(third), fourth, out)
-        }
-        Field::Value(x) => {
-            let number = Optional::Present(x);
-            let call = Call {
-                access,
-                writer,
-                number,
-                places,
-            };
-            run_kind(hold, kind, call, line, after(third), fourth, out)
-        }
-    }
+    let call = Call {
+        access: on == 1,
+        writer,
+        number,
+        places,
+    };
+    run_kind(hold, kind, call, line, after(third), fourth, out)
 }
 
 // A line, without its newline.
@@ -413,20 +379,6 @@ fn run_line(hold: CoherentHold, line: &[u8], out: &mut Out) -> Answer {
 
 // ---- the input
 
-// Prints the answer to the first `length` bytes of line, `bad` where line has not so many.
-fn answer_line(hold: CoherentHold, line: &Line, length: usize) -> CoherentHold {
-    let line: &[u8] = line;
-    let mut out = [0u8; 2560];
-    if line.len() < length {
-        let said = say_bad(hold, &mut out);
-        print(&out, said.length);
-        return said.hold;
-    }
-    let said = run_line(hold, &line[0..length], &mut out);
-    print(&out, said.length);
-    said.hold
-}
-
 fn print(out: &Out, length: usize) {
     let text: &[u8] = out;
     if length <= text.len() {
@@ -434,67 +386,31 @@ fn print(out: &Out, length: usize) {
     }
 }
 
-// Adds a byte to a line, and answers its length. A line that has no room for the byte is bad, and stays at 65.
-fn lengthen(line: &mut Line, length: usize, b: u8) -> usize {
-    if length < 64 {
-        line[length] = b;
-        return length + 1;
-    }
-    65
+// Prints the answer to the first bytes of a line.
+fn answer_line(hold: CoherentHold, line: &Line, length: usize) -> CoherentHold
+    requires { ⌜ length ≤ 256 ⌝ }
+{
+    let line: &[u8] = line;
+    let mut out = [0u8; 2560];
+    let said = run_line(hold, &line[0..length], &mut out);
+    print(&out, said.length);
+    said.hold
 }
 
-fn run_chunk(place: Place, chunk: &[u8], line: &mut Line) -> Place {
-    let mut hold = place.hold;
-    let mut length = place.length;
-    let mut i: usize = 0;
-    while i < chunk.len() {
-        let b = chunk[i];
-        i += 1;
-        if b == b'\n' {
-            hold = answer_line(hold, line, length);
-            length = 0;
-        } else {
-            length = lengthen(line, length, b);
-        }
-    }
-    Place { hold, length }
-}
-
-// Reads once, and runs what came.
-fn run_some(place: Place, line: &mut Line) -> Turn {
-    let mut chunk = io::buffer();
-    let got = libc::read(STDIN_FILENO, &mut chunk);
-    if got <= 0 {
-        return Turn { place, more: false };
-    }
-    let count = io::count(got, &chunk);
-    let next = run_chunk(place, &chunk[..count], line);
-    Turn {
-        place: next,
-        more: true,
-    }
-}
-
-// Reads to the end of the input. So that the loop is seen to end, it counts down from more reads than any run makes.
-fn run_input(line: &mut Line) -> Place {
-    let hold = CoherentHold::new();
-    let mut place = Place { hold, length: 0 };
+// So that the loop is seen to end, it counts down from more lines than any run has.
+fn main() {
+    let mut hold = CoherentHold::new();
+    let mut chunk = io::large_buffer();
+    let mut line = [0u8; 256];
+    let mut input = begin();
     let mut turns = u64::MAX;
     while 0 < turns {
         turns -= 1;
-        let turn = run_some(place, line);
-        place = turn.place;
-        if !turn.more {
-            return place;
+        let next = next_line(&mut chunk, input, &mut line);
+        if !next.more {
+            return;
         }
-    }
-    place
-}
-
-fn main() {
-    let mut line = [0u8; 64];
-    let place = run_input(&mut line);
-    if 0 < place.length {
-        answer_line(place.hold, &line, place.length); // the last line has no newline
+        hold = answer_line(hold, &line, next.length);
+        input = next.input;
     }
 }

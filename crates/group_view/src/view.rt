@@ -239,7 +239,7 @@ pub fn spoil(view: &mut [u64; 1307])
     ensures { λ _. ⌜ Spoiled (now (view .entry)) (now (view .exit)) ⌝ }
 {
     whole_view(view);
-    view[2] = 1;
+    view[2] = 1; // whatever the rows are
 }
 
 // Refusal 9.

@@ -1,3 +1,2 @@
-// What a subscriber's PRESENTATION does to the samples that a reader takes: presentation.rs of the source.
-pub mod gate;
+// The subscriber turn: GroupOrdering of presentation.rs of the source.
 pub mod ordering;

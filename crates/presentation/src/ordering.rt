@@ -125,7 +125,7 @@ fn offer_by(group: [u8; 16], mark: GroupMark, item: GroupItem) -> Offer
 }
 
 // A row's reader above 7 spoils the view.
-fn note_reader(view: &mut [u64; 1307], row: Progress)
+pub fn note_reader(view: &mut [u64; 1307], row: Progress)
     ensures { λ _. ⌜ NotedReader row (now (view .entry)) (now (view .exit)) ⌝ }
 {
     if 7 < row.reader {
@@ -144,7 +144,7 @@ fn note_readers(view: &mut [u64; 1307], rows: &[Progress])
 }
 
 // What becomes of a turn, in the order of document 01.
-enum Verdict {
+pub enum Verdict {
     Goes,
     Idle,
     Malformed,
@@ -152,7 +152,7 @@ enum Verdict {
 }
 
 // Nothing is changed.
-fn admits(store: &mut [u64; 6984], view: &mut [u64; 1307], room: usize) -> Verdict
+pub fn admits(store: &mut [u64; 6984], view: &mut [u64; 1307], room: usize) -> Verdict
     ensures { λ r. ⌜ Admitted (now (store .entry)) (now (view .entry)) room r (now (store .exit)) (now (view .exit)) ⌝ }
 {
     if is_malformed(view) {
@@ -218,7 +218,7 @@ fn apply_gap(store: &mut [u64; 6984], group: [u8; 16], writer: [u8; 16], reader:
     }
 }
 
-fn apply_row(store: &mut [u64; 6984], row: Progress, go: bool)
+pub fn apply_row(store: &mut [u64; 6984], row: Progress, go: bool)
     ensures { λ _. ⌜ Applies go row (now (store .entry)) (now (store .exit)) ⌝ }
 {
     if go {
@@ -285,7 +285,7 @@ fn release_counted(
 }
 
 // What the verdict says.
-fn finish(
+pub fn finish(
     store: &mut [u64; 6984],
     view: &mut [u64; 1307],
     verdict: Verdict,

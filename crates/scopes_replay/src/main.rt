@@ -13,7 +13,8 @@
 //   W                   access is active      0 or 1
 //   S                   current snapshot      generation
 //
-// Numbers are decimal, bytes are lower-case hex, `-` for none. Any other line is `bad`.
+// Numbers are decimal, bytes are lower-case hex, `-` for none. Any other line is `bad`. Of a line longer than 256 bytes the first
+// 256 are run.
 // Before the first line there is a new scope, and an access scope at 0 0.
 use coherent_set::AccessEnded;
 use coherent_set::CoherentBegun;
@@ -26,14 +27,14 @@ use coherent_set::GroupAccessScope;
 use decimal::Put;
 use decimal::Signed;
 use decimal::Unsigned;
-use libc::STDIN_FILENO;
 use libc::STDOUT_FILENO;
+use line_input::next_line;
 
 // Room for every answer.
 type Out = [u8; 32];
 
-// Room for every good line, but for a `D` of more than 31 bytes.
-type Line = [u8; 64];
+// Room for every good line, but for a `D` of more than 127 bytes, which is refused as one of 127 is.
+type Line = [u8; 256];
 
 struct Scopes {
     scope: CoherentScope,
@@ -44,18 +45,6 @@ struct Scopes {
 struct Answer {
     scopes: Scopes,
     length: usize,
-}
-
-// The scopes between two bytes of the input, and how many bytes of a line are there.
-struct Place {
-    scopes: Scopes,
-    length: usize,
-}
-
-// A read of the input: where it leads, and whether there may be more.
-struct Turn {
-    place: Place,
-    more: bool,
 }
 
 // Puts text at `at`, and answers where the next byte goes. Every answer has room.
@@ -105,16 +94,25 @@ fn say_flag(scopes: Scopes, flag: bool, out: &mut Out) -> Answer {
     say(scopes, b"0\n", out)
 }
 
-fn say_unsigned(scopes: Scopes, n: u64, out: &mut Out) -> Answer {
-    let at = put_unsigned(out, 0, n);
+// A precondition is not met.
+fn say_unmet(scopes: Scopes, out: &mut Out) -> Answer {
+    say(scopes, b"refused 6\n", out)
+}
+
+// Ends an answer at `at`.
+fn end_answer(scopes: Scopes, out: &mut Out, at: usize) -> Answer {
     let length = put(out, at, b"\n");
     Answer { scopes, length }
 }
 
+fn say_unsigned(scopes: Scopes, n: u64, out: &mut Out) -> Answer {
+    let at = put_unsigned(out, 0, n);
+    end_answer(scopes, out, at)
+}
+
 fn say_signed(scopes: Scopes, x: i64, out: &mut Out) -> Answer {
     let at = put_signed(out, x);
-    let length = put(out, at, b"\n");
-    Answer { scopes, length }
+    end_answer(scopes, out, at)
 }
 
 // The digit of n's low half.
@@ -150,11 +148,11 @@ fn put_hex(out: &mut Out, bytes: &[u8]) -> usize {
 }
 
 // Fills bytes with what text spells, two hex digits each, and answers whether it spells some.
-fn read_hex(text: &[u8], bytes: &mut [u8; 32]) -> bool {
+fn read_hex(text: &[u8], bytes: &mut [u8; 128]) -> bool {
     if text.len() == 0 || text.len() % 2 != 0 {
         return false;
     }
-    if 64 < text.len() {
+    if 256 < text.len() {
         return false; // longer than a field can be
     }
     let mut i: usize = 0;
@@ -180,12 +178,11 @@ fn encode(scopes: Scopes, field: &[u8], out: &mut Out) -> Answer {
     };
     let bytes = CoherentSetMarker::new(x).to_wire_bytes();
     let at = put_hex(out, &bytes);
-    let length = put(out, at, b"\n");
-    Answer { scopes, length }
+    end_answer(scopes, out, at)
 }
 
 fn decode(scopes: Scopes, field: &[u8], out: &mut Out) -> Answer {
-    let mut bytes = [0u8; 32];
+    let mut bytes = [0u8; 128];
     if field.len() == 1 && field[0] == b'-' {
         return decode_bytes(scopes, &bytes, 0, out);
     }
@@ -197,7 +194,7 @@ fn decode(scopes: Scopes, field: &[u8], out: &mut Out) -> Answer {
 }
 
 // Decodes the first `count` bytes.
-fn decode_bytes(scopes: Scopes, bytes: &[u8; 32], count: usize, out: &mut Out) -> Answer {
+fn decode_bytes(scopes: Scopes, bytes: &[u8; 128], count: usize, out: &mut Out) -> Answer {
     let all: &[u8] = bytes;
     if all.len() < count {
         return say_bad(scopes, out);
@@ -218,11 +215,7 @@ fn begin(scopes: Scopes, field: &[u8], out: &mut Out) -> Answer {
     let begun = scopes.scope.begin(x);
     match begun {
         CoherentBegun::Begun(scope) => say_ok(Scopes { scope, access }, out),
-        CoherentBegun::PreconditionNotMet(scope) => say(
-            Scopes { scope, access },
-            b"refused 6\n",
-            out,
-        ),
+        CoherentBegun::PreconditionNotMet(scope) => say_unmet(Scopes { scope, access }, out),
     }
 }
 
@@ -235,11 +228,7 @@ fn end(scopes: Scopes, out: &mut Out) -> Answer {
             marker.set_first_sn,
             out,
         ),
-        CoherentEnded::PreconditionNotMet(scope) => say(
-            Scopes { scope, access },
-            b"refused 6\n",
-            out,
-        ),
+        CoherentEnded::PreconditionNotMet(scope) => say_unmet(Scopes { scope, access }, out),
     }
 }
 
@@ -264,7 +253,7 @@ fn access_at(scopes: Scopes, count: u64, generation: u64, out: &mut Out) -> Answ
 }
 
 fn new_access(scopes: Scopes, fields: &[u8], out: &mut Out) -> Answer {
-    let end = decimal::field_end(fields, 0);
+    let end = decimal::field_end(fields, 0, b' ');
     if fields.len() <= end {
         return say_bad(scopes, out);
     }
@@ -286,7 +275,7 @@ fn access_end(scopes: Scopes, out: &mut Out) -> Answer {
     let answer = before.end_answer();
     match answer {
         AccessEnded::Ended => say_ok(Scopes { scope, access }, out),
-        AccessEnded::PreconditionNotMet => say(Scopes { scope, access }, b"refused 6\n", out),
+        AccessEnded::PreconditionNotMet => say_unmet(Scopes { scope, access }, out),
     }
 }
 
@@ -338,20 +327,6 @@ fn run_line(scopes: Scopes, line: &[u8], out: &mut Out) -> Answer {
     run_fields(scopes, line[0], &line[2..], out)
 }
 
-// Prints the answer to the first `length` bytes of line, `bad` where line has not so many.
-fn answer_line(scopes: Scopes, line: &Line, length: usize) -> Scopes {
-    let line: &[u8] = line;
-    let mut out = [0u8; 32];
-    if line.len() < length {
-        let said = say_bad(scopes, &mut out);
-        print(&out, said.length);
-        return said.scopes;
-    }
-    let said = run_line(scopes, &line[0..length], &mut out);
-    print(&out, said.length);
-    said.scopes
-}
-
 fn print(out: &Out, length: usize) {
     let text: &[u8] = out;
     if length <= text.len() {
@@ -359,81 +334,35 @@ fn print(out: &Out, length: usize) {
     }
 }
 
-// Adds a byte to a line, and answers its length. A line that has no room for the byte is bad, and stays at 65, unless
-// it is a `D` with many digits: that answers the same with two digits less, so two are dropped.
-fn lengthen(line: &mut Line, length: usize, b: u8) -> usize {
-    if length < 64 {
-        line[length] = b;
-        return length + 1;
+// Prints the answer to the first bytes of a line, and answers the scopes after it.
+fn answer_line(scopes: Scopes, line: &Line, length: usize) -> Scopes {
+    let line: &[u8] = line;
+    if line.len() < length {
+        return scopes; // no line is longer
     }
-    if length == 64 && hex_value(line[63]) < 16 && hex_value(b) < 16 {
-        return 63;
-    }
-    65
+    let mut out = [0u8; 32];
+    let said = run_line(scopes, &line[0..length], &mut out);
+    print(&out, said.length);
+    said.scopes
 }
 
-fn run_byte(place: Place, b: u8, line: &mut Line) -> Place {
-    let before = place.scopes;
-    let length = place.length;
-    if b == b'\n' {
-        let scopes = answer_line(before, line, length);
-        return Place { scopes, length: 0 };
-    }
-    let length = lengthen(line, length, b);
-    Place {
-        scopes: before,
-        length,
-    }
-}
-
-fn run_chunk(place: Place, chunk: &[u8], line: &mut Line) -> Place {
-    let mut place = place;
-    let mut i: usize = 0;
-    while i < chunk.len() {
-        place = run_byte(place, chunk[i], line);
-        i += 1;
-    }
-    place
-}
-
-// Reads once, and runs what came.
-fn run_some(place: Place, line: &mut Line) -> Turn {
-    let mut chunk = io::buffer();
-    let got = libc::read(STDIN_FILENO, &mut chunk);
-    if got <= 0 {
-        return Turn { place, more: false };
-    }
-    let count = io::count(got, &chunk);
-    let next = run_chunk(place, &chunk[..count], line);
-    Turn {
-        place: next,
-        more: true,
-    }
-}
-
-// Reads to the end of the input. So that the loop is seen to end, it counts down from more reads than any run makes.
-fn run_input(line: &mut Line) -> Place {
-    let scopes = Scopes {
+// So that the loop is seen to end, it counts down from more lines than any run has.
+fn main() {
+    let mut scopes = Scopes {
         scope: CoherentScope::new(),
         access: GroupAccessScope::new(),
     };
-    let mut place = Place { scopes, length: 0 };
+    let mut chunk = io::large_buffer();
+    let mut line = [0u8; 256];
+    let mut input = line_input::begin();
     let mut turns = u64::MAX;
     while 0 < turns {
         turns -= 1;
-        let turn = run_some(place, line);
-        place = turn.place;
-        if !turn.more {
-            return place;
+        let next = next_line(&mut chunk, input, &mut line);
+        if !next.more {
+            return;
         }
-    }
-    place
-}
-
-fn main() {
-    let mut line = [0u8; 64];
-    let place = run_input(&mut line);
-    if 0 < place.length {
-        answer_line(place.scopes, &line, place.length); // the last line has no newline
+        scopes = answer_line(scopes, &line, next.length);
+        input = next.input;
     }
 }

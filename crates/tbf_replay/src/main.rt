@@ -17,32 +17,21 @@ use filter_hold::tbf::HoldAnswer;
 use filter_hold::tbf::Separation;
 use filter_hold::tbf::TbfHold;
 use filter_hold::tbf::Time;
-use libc::STDIN_FILENO;
 use libc::STDOUT_FILENO;
+use line_input::begin;
+use line_input::next_line;
 ghost use Prim.Native.Nat.{_≤_};
 
 // Room for every answer: 32 samples of at most 55 bytes.
 type Out = [u8; 2048];
 
-// Room for every good line.
-type Line = [u8; 96];
+// No good line has more than 78 bytes, so one that is cut to fit is bad, as it was.
+type Line = [u8; 256];
 
 // The hold after a call, and how many bytes of the answer there are.
 struct Answer {
     hold: TbfHold,
     length: usize,
-}
-
-// The hold between two bytes of the input, and how many bytes of a line are there.
-struct Place {
-    hold: TbfHold,
-    length: usize,
-}
-
-// A read of the input: where it leads, and whether there may be more.
-struct Turn {
-    place: Place,
-    more: bool,
 }
 
 // Puts text at `at`, and answers where the next byte goes. Every answer has room.
@@ -100,14 +89,14 @@ fn span_of(fields: &[u8], k: usize) -> Span {
     let mut at: usize = 0;
     let mut i: usize = 0;
     while i < k {
-        let end = decimal::field_end(fields, at);
+        let end = decimal::field_end(fields, at, b' ');
         if fields.len() <= end {
             return Span::Nowhere;
         }
         at = end + 1;
         i += 1;
     }
-    Span::From(at, decimal::field_end(fields, at))
+    Span::From(at, decimal::field_end(fields, at, b' '))
 }
 
 // Whether field k is there, and is the last.
@@ -119,8 +108,8 @@ fn ends_with(fields: &[u8], k: usize) -> bool {
     }
 }
 
-// Field k, at most `largest`.
-fn read_unsigned(fields: &[u8], k: usize, largest: u64) -> Unsigned {
+// Field k.
+fn read_unsigned(fields: &[u8], k: usize) -> Unsigned {
     let found = span_of(fields, k);
     let Span::From(start, end) = found else {
         return Unsigned::Bad;
@@ -131,14 +120,7 @@ fn read_unsigned(fields: &[u8], k: usize, largest: u64) -> Unsigned {
     if fields.len() < end {
         return Unsigned::Bad;
     }
-    let number = decimal::read_unsigned(&fields[start..end]);
-    let Unsigned::Value(n) = number else {
-        return Unsigned::Bad;
-    };
-    if largest < n {
-        return Unsigned::Bad;
-    }
-    Unsigned::Value(n)
+    decimal::read_unsigned(&fields[start..end])
 }
 
 fn read_signed(fields: &[u8], k: usize) -> Signed {
@@ -161,7 +143,7 @@ enum Narrow {
 }
 
 fn read_narrow(fields: &[u8], k: usize) -> Narrow {
-    let number = read_unsigned(fields, k, 4294967295);
+    let number = read_unsigned(fields, k);
     let Unsigned::Value(n) = number else {
         return Narrow::Bad;
     };
@@ -229,7 +211,7 @@ fn hold_one(hold: TbfHold, fields: &[u8], out: &mut Out) -> Answer {
     if !ends_with(fields, 5) {
         return say_bad(hold, out);
     }
-    let number = read_unsigned(fields, 0, 18446744073709551615);
+    let number = read_unsigned(fields, 0);
     let Unsigned::Value(instance) = number else {
         return say_bad(hold, out);
     };
@@ -259,7 +241,7 @@ fn supersede(hold: TbfHold, fields: &[u8], out: &mut Out) -> Answer {
     if !ends_with(fields, 0) {
         return say_bad(hold, out);
     }
-    let number = read_unsigned(fields, 0, 18446744073709551615);
+    let number = read_unsigned(fields, 0);
     let Unsigned::Value(instance) = number else {
         return say_bad(hold, out);
     };
@@ -284,7 +266,7 @@ fn take_due(hold: TbfHold, fields: &[u8], out: &mut Out) -> Answer {
     let Moment::At(time) = moment else {
         return say_bad(hold, out);
     };
-    let number = read_unsigned(fields, 2, 18446744073709551615);
+    let number = read_unsigned(fields, 2);
     let Unsigned::Value(places) = number else {
         return say_bad(hold, out);
     };
@@ -321,13 +303,17 @@ fn say_taken(hold: TbfHold, n: usize, words: &[u64; 64], out: &mut Out) -> Answe
     Answer { hold, length }
 }
 
+fn put_time(out: &mut Out, at: usize, t: Time, between: &[u8]) -> usize {
+    let mut next = put_signed(out, at, wide(t.sec));
+    next = put(out, next, between);
+    put_unsigned(out, next, t.nanosec as u64)
+}
+
 fn put_held(out: &mut Out, at: usize, x: Held) -> usize {
     let due = x.due;
     let mut next = put_sample(out, at, x.instance, x.item as u64);
     next = put(out, next, b":");
-    next = put_signed(out, next, wide(due.sec));
-    next = put(out, next, b":");
-    put_unsigned(out, next, due.nanosec as u64)
+    put_time(out, next, due, b":")
 }
 
 fn say_held(hold: TbfHold, out: &mut Out) -> Answer {
@@ -362,9 +348,7 @@ fn due_alone(hold: TbfHold, fields: &[u8], out: &mut Out) -> Answer {
         return say(hold, b"refused 10\n", out);
     }
     let due = filter_hold::tbf::time_after(arrival, separation);
-    let mut at = put_signed(out, 0, wide(due.sec));
-    at = put(out, at, b" ");
-    at = put_unsigned(out, at, due.nanosec as u64);
+    let at = put_time(out, 0, due, b" ");
     let length = put(out, at, b"\n");
     Answer { hold, length }
 }
@@ -403,20 +387,6 @@ fn run_line(hold: TbfHold, line: &[u8], out: &mut Out) -> Answer {
     run_fields(hold, line[0], &line[2..], out)
 }
 
-// Prints the answer to the first `length` bytes of line, `bad` where line has not so many.
-fn answer_line(hold: TbfHold, line: &Line, length: usize) -> TbfHold {
-    let line: &[u8] = line;
-    let mut out = [0u8; 2048];
-    if line.len() < length {
-        let said = say_bad(hold, &mut out);
-        print(&out, said.length);
-        return said.hold;
-    }
-    let said = run_line(hold, &line[0..length], &mut out);
-    print(&out, said.length);
-    said.hold
-}
-
 fn print(out: &Out, length: usize) {
     let text: &[u8] = out;
     if length <= text.len() {
@@ -424,74 +394,31 @@ fn print(out: &Out, length: usize) {
     }
 }
 
-// Adds a byte to a line, and answers its length. A line that has no room for the byte is bad, and stays at 97.
-fn lengthen(line: &mut Line, length: usize, b: u8) -> usize {
-    if length < 96 {
-        line[length] = b;
-        return length + 1;
-    }
-    97
+// Prints the answer to the first bytes of a line.
+fn answer_line(hold: TbfHold, line: &Line, length: usize) -> TbfHold
+    requires { ⌜ length ≤ 256 ⌝ }
+{
+    let line: &[u8] = line;
+    let mut out = [0u8; 2048];
+    let said = run_line(hold, &line[0..length], &mut out);
+    print(&out, said.length);
+    said.hold
 }
 
-fn run_byte(place: Place, b: u8, line: &mut Line) -> Place {
-    let before = place.hold;
-    let length = place.length;
-    if b == b'\n' {
-        let hold = answer_line(before, line, length);
-        return Place { hold, length: 0 };
-    }
-    let length = lengthen(line, length, b);
-    Place {
-        hold: before,
-        length,
-    }
-}
-
-fn run_chunk(place: Place, chunk: &[u8], line: &mut Line) -> Place {
-    let mut place = place;
-    let mut i: usize = 0;
-    while i < chunk.len() {
-        place = run_byte(place, chunk[i], line);
-        i += 1;
-    }
-    place
-}
-
-// Reads once, and runs what came.
-fn run_some(place: Place, line: &mut Line) -> Turn {
-    let mut chunk = io::buffer();
-    let got = libc::read(STDIN_FILENO, &mut chunk);
-    if got <= 0 {
-        return Turn { place, more: false };
-    }
-    let count = io::count(got, &chunk);
-    let next = run_chunk(place, &chunk[..count], line);
-    Turn {
-        place: next,
-        more: true,
-    }
-}
-
-// Reads to the end of the input. So that the loop is seen to end, it counts down from more reads than any run makes.
-fn run_input(line: &mut Line) -> Place {
-    let hold = TbfHold::new();
-    let mut place = Place { hold, length: 0 };
+// So that the loop is seen to end, it counts down from more lines than any run has.
+fn main() {
+    let mut hold = TbfHold::new();
+    let mut chunk = io::large_buffer();
+    let mut line = [0u8; 256];
+    let mut input = begin();
     let mut turns = u64::MAX;
     while 0 < turns {
         turns -= 1;
-        let turn = run_some(place, line);
-        place = turn.place;
-        if !turn.more {
-            return place;
+        let next = next_line(&mut chunk, input, &mut line);
+        if !next.more {
+            return;
         }
-    }
-    place
-}
-
-fn main() {
-    let mut line = [0u8; 96];
-    let place = run_input(&mut line);
-    if 0 < place.length {
-        answer_line(place.hold, &line, place.length); // the last line has no newline
+        hold = answer_line(hold, &line, next.length);
+        input = next.input;
     }
 }

@@ -77,7 +77,7 @@ pub(super) fn rows(rng: &mut Rng) -> Vec<String> {
     lines.extend((0..rows).map(|_| counted(rng)));
     for number in 1..=rng.between(2, 6) {
         let pair = Pair(rng.below(3) as u8, rng.below(4) as u8, rng.below(8) as u8);
-        lines.push(text::sample(pair, Info(number, None, 7), number as u64, 0));
+        lines.push(text::sample(pair, Info(number, None, 7), number as u32, 0));
     }
     for time in [0, 9, 10, 20] {
         lines.push(text::release(time));
@@ -131,7 +131,7 @@ pub(super) fn entries(rng: &mut Rng) -> Vec<String> {
     let pending = 256 - members - joins - rng.between(0, 4);
     for place in 0..pending {
         let number = 2 + place / rng.between(1, 2);
-        lines.push(near_full(rng, number, place as u64));
+        lines.push(near_full(rng, number, place as u32));
     }
     for step in 0..rng.between(15, 40) {
         let number = rng.between(0, pending + 3);
@@ -141,7 +141,7 @@ pub(super) fn entries(rng: &mut Rng) -> Vec<String> {
                 let reader = *rng.pick(&[0, 1, 8]);
                 touch(rng, Pair(group, writer, reader))
             }
-            0..=4 => near_full(rng, number, 1000 + step as u64),
+            0..=4 => near_full(rng, number, 1000 + step as u32),
             5..=7 => {
                 let pair = Pair(1, rng.between(1, 6) as u8, rng.below(8) as u8);
                 let info = Info(rng.between(0, 2), Some(rng.between(1, 2)), 7);
@@ -149,7 +149,7 @@ pub(super) fn entries(rng: &mut Rng) -> Vec<String> {
             }
             8 | 9 => {
                 let info = Info(rng.between(0, members + 3), *rng.pick(&[None, Some(1)]), 7);
-                text::sample(Pair(1, 1, 0), info, 2000 + step as u64, 0)
+                text::sample(Pair(1, 1, 0), info, 2000 + step as u32, 0)
             }
             10 => text::gap(Pair(2, 1, 0), number),
             _ => text::release(*rng.pick(&[0, TIMEOUT - 1, TIMEOUT])),
@@ -160,8 +160,33 @@ pub(super) fn entries(rng: &mut Rng) -> Vec<String> {
     lines
 }
 
+/// Samples up to 256 and a release of them all; with the longest items, and
+/// behind many skipped numbers.
+pub(super) fn samples(rng: &mut Rng) -> Vec<String> {
+    let timeout = rng.below(2);
+    let mut lines = vec![text::fresh(timeout)];
+    let far = *rng.pick(&[0, i64::MAX - 300]);
+    let item = u32::MAX - 300 * rng.below(2) as u32;
+    let groups = rng.between(1, 2);
+    for number in 1..=rng.between(254, 257) {
+        let pair = Pair(rng.between(1, groups) as u8, 1, rng.below(8) as u8);
+        let info = Info(far + number, None, 7);
+        lines.push(text::sample(
+            pair,
+            info,
+            item.saturating_add(number as u32),
+            0,
+        ));
+        if rng.once_in(1000) {
+            lines.push(text::release(0));
+        }
+    }
+    lines.push(text::release(timeout));
+    lines
+}
+
 /// A sample or an end of group 2.
-fn near_full(rng: &mut Rng, number: i64, item: u64) -> String {
+fn near_full(rng: &mut Rng, number: i64, item: u32) -> String {
     let pair = Pair(2, 1, rng.below(3) as u8);
     let info = Info(number, *rng.pick(&[None, None, Some(2)]), 7);
     match rng.below(5) {

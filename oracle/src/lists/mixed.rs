@@ -6,17 +6,21 @@ use crate::rng::Rng;
 /// What the calls of one list have in common.
 struct Scene {
     groups: Vec<u8>,
-    writers: u64,
-    readers: u64,
+    writers: Vec<u8>,
+    readers: Vec<u8>,
+    /// The digest of the rows, and of most calls.
+    digest: u32,
     timeout: u64,
     /// Numbers lie around this one, which rises.
     head: i64,
     /// Numbers are drawn from all ends of 64 bits.
     ends: bool,
+    /// Most calls are heartbeats and gaps.
+    told: bool,
     now: u64,
     /// Times of calls so far.
     times: Vec<u64>,
-    items: u64,
+    items: u32,
 }
 
 pub(super) fn list(rng: &mut Rng) -> Vec<String> {
@@ -34,11 +38,16 @@ fn with_timeout(rng: &mut Rng, timeout: u64) -> Vec<String> {
     let groups = rng.pick(&[[1, 2], [0, 1], [2, 255]])[..count].to_vec();
     let mut scene = Scene {
         groups,
-        writers: rng.below(3) + 1,
-        readers: rng.below(3) + 1,
+        writers: some(rng, &[1, 2, 3]),
+        readers: match rng.once_in(8) {
+            true => (0..8).collect(),
+            false => some(rng, &[0, 1, 2]),
+        },
+        digest: 7,
         timeout,
         head: 1,
         ends: false,
+        told: rng.once_in(3),
         now: 0,
         times: Vec::new(),
         items: 0,
@@ -51,17 +60,24 @@ fn with_timeout(rng: &mut Rng, timeout: u64) -> Vec<String> {
 pub(super) fn at_the_ends(rng: &mut Rng) -> Vec<String> {
     let head = *rng.pick(&[i64::MIN + 1, -1, 1, 1 << 32, i64::MAX - 9, i64::MAX - 3]);
     let mut scene = Scene {
-        groups: rng.pick(&[[1, 0], [1, 1]]).to_vec(),
-        writers: rng.below(2) + 1,
-        readers: rng.below(2) + 1,
+        groups: rng.pick(&[[1, 0], [1, 1], [254, 255]]).to_vec(),
+        writers: some(rng, &[255, 0]),
+        readers: some(rng, &[7, 0]),
+        digest: *rng.pick(&[0, 7, u32::MAX]),
         timeout: *rng.pick(&[0, 0, 1, 10, u64::MAX - 1, u64::MAX]),
         head,
         ends: true,
+        told: rng.once_in(4),
         now: *rng.pick(&[0, u64::MAX - 20]),
         times: Vec::new(),
         items: 0,
     };
     scene.list(rng)
+}
+
+/// The first ones, one at least.
+fn some(rng: &mut Rng, from: &[u8]) -> Vec<u8> {
+    from[..rng.below(from.len() as u64) as usize + 1].to_vec()
 }
 
 impl Scene {
@@ -84,26 +100,34 @@ impl Scene {
 
     fn rows(&mut self, rng: &mut Rng, lines: &mut Vec<String>) {
         for &group in &self.groups {
-            for writer in 1..=self.writers {
-                for reader in 0..self.readers {
+            for &writer in &self.writers {
+                for &reader in &self.readers {
                     if rng.once_in(2) {
-                        lines.push(text::counted(Pair(group, writer as u8, reader as u8)));
+                        lines.push(text::counted(Pair(group, writer, reader)));
                     }
                 }
             }
             if !rng.once_in(5) {
-                lines.push(text::digest(group, 7));
+                lines.push(text::digest(group, self.digest));
             }
         }
     }
 
     fn call(&mut self, rng: &mut Rng) -> String {
         let pair = self.pair(rng);
-        match rng.below(20) {
+        let kind = match self.told && !rng.once_in(3) {
+            true => 11 + rng.below(5),
+            false => rng.below(20),
+        };
+        match kind {
             0..=7 => {
                 self.items += 1;
                 let (info, time) = (self.info(rng), self.time(rng));
-                text::sample(pair, info, self.items, time)
+                let item = match self.ends && rng.once_in(3) {
+                    true => *rng.pick(&[0, u32::MAX - 1, u32::MAX]),
+                    false => self.items,
+                };
+                text::sample(pair, info, item, time)
             }
             8..=10 => {
                 let (info, time) = (self.info(rng), self.time(rng));
@@ -115,7 +139,8 @@ impl Scene {
                 let first = self.number(rng);
                 let last = first.saturating_add(rng.between(-1, 3));
                 let current = self.number(rng).saturating_add(rng.between(0, 3));
-                let digest = *rng.pick(&[None, None, Some(7), Some(7), Some(8)]);
+                let (right, wrong) = (Some(self.digest), Some(self.other_digest()));
+                let digest = *rng.pick(&[None, None, right, right, wrong]);
                 let secure = *rng.pick(&[None, None, None, Some(0), Some(0), Some(1)]);
                 let range = [first, last, current];
                 text::heartbeat(pair.0, pair.1, range, [digest, secure])
@@ -130,10 +155,9 @@ impl Scene {
     fn pair(&self, rng: &mut Rng) -> Pair {
         let reader = match rng.below(60) {
             0 => *rng.pick(&[7, 8, 255]),
-            _ => rng.below(self.readers) as u8,
+            _ => *rng.pick(&self.readers),
         };
-        let writer = rng.below(self.writers) as u8 + 1;
-        Pair(*rng.pick(&self.groups), writer, reader)
+        Pair(*rng.pick(&self.groups), *rng.pick(&self.writers), reader)
     }
 
     fn info(&self, rng: &mut Rng) -> Info {
@@ -143,7 +167,10 @@ impl Scene {
             4 => Some(self.number(rng)),
             _ => Some(self.head),
         };
-        let digest = if rng.once_in(12) { 8 } else { 7 };
+        let digest = match rng.once_in(12) {
+            true => self.other_digest(),
+            false => self.digest,
+        };
         Info(self.number(rng), set, digest)
     }
 
@@ -158,6 +185,10 @@ impl Scene {
             return self.head + rng.between(0, most);
         }
         self.head.saturating_add(far)
+    }
+
+    fn other_digest(&self) -> u32 {
+        self.digest ^ 8
     }
 
     /// The first number of an end.

@@ -9,7 +9,7 @@ use rust_std::collections::VecDeque;
 /// A change on its way to one reader.
 #[derive(Clone)]
 enum Change {
-    Sample(i64, Option<i64>, u64),
+    Sample(i64, Option<i64>, u32),
     End(i64, i64, Option<i64>, i64),
 }
 
@@ -35,7 +35,7 @@ struct Run {
     lines: Vec<String>,
     now: u64,
     timeout: u64,
-    items: u64,
+    items: u32,
     /// Changes on their way, for each pair.
     paths: Vec<(Pair, VecDeque<Change>)>,
     /// How often, once in so many, something goes wrong.

@@ -9,7 +9,7 @@ struct Alphabet {
 
 const LONGEST: u32 = 4;
 
-const ALPHABETS: [Alphabet; 9] = [
+const ALPHABETS: [Alphabet; 11] = [
     // Plain numbers of two writers, ruled out or not.
     Alphabet {
         before: &["T 10", "V 1 1 0", "V 1 2 1", "D 1 7"],
@@ -24,6 +24,21 @@ const ALPHABETS: [Alphabet; 9] = [
             "R 9",
         ],
         after: &["R 10", "R 12", "R 13"],
+    },
+    // What one writer told last, and the most that it told.
+    Alphabet {
+        before: &["T 10", "V 1 1 0", "D 1 7"],
+        letters: &[
+            "G 1 1 0 3",
+            "G 1 1 0 1",
+            "H 1 1 4 4 5 7 0",
+            "H 1 1 2 3 2 7 -",
+            "H 1 2 1 0 9 - -",
+            "S 1 2 0 4 - 7 11 0",
+            "S 1 1 0 5 - 7 12 0",
+            "R 9",
+        ],
+        after: &["R 9", "R 10"],
     },
     // Copies of one writer for two readers.
     Alphabet {
@@ -68,6 +83,21 @@ const ALPHABETS: [Alphabet; 9] = [
             "R 0",
         ],
         after: &["E 1 2 1 1 1 7 - - 3", "R 9", "R 10"],
+    },
+    // One number that ends several sets.
+    Alphabet {
+        before: &["T 10", "V 1 1 0", "D 1 7", "S 1 1 0 1 2 7 10 0"],
+        letters: &[
+            "E 1 1 0 2 2 7 1 2 0",
+            "E 1 1 0 2 1 7 - 2 0",
+            "E 1 1 0 2 3 7 - 2 0",
+            "S 1 1 0 2 3 7 11 0",
+            "E 1 2 1 1 2 7 - 2 0",
+            "V 1 2 1",
+            "S 1 1 0 3 - 7 12 0",
+            "R 9",
+        ],
+        after: &["R 9", "E 1 2 1 1 1 7 - - 0", "R 9", "R 10"],
     },
     // Ends with and without first and own numbers.
     Alphabet {

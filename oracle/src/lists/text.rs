@@ -22,7 +22,7 @@ impl core::fmt::Display for Info {
     }
 }
 
-pub(super) fn sample(pair: Pair, info: Info, item: u64, time: u64) -> String {
+pub(super) fn sample(pair: Pair, info: Info, item: u32, time: u64) -> String {
     format!("S {pair} {info} {item} {time}")
 }
 

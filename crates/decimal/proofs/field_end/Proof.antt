@@ -1,32 +1,32 @@
--- `decimal::field_end` meets its contract: up to `i` there is no space, so the field ends as many bytes after `i` as stand before one there.
+-- `decimal::field_end` meets its contract: up to `i` no byte is `stop`, so the field ends as many bytes after `i` as stand before one there.
 use Prim.Native.Nat.{_+_, _-_, _≤_}
 use mathlib.Core.Path.{_≡_}
 use native.Mathlib.Omega.{arith}
 use borrow.Author.Needs.{needs}
 use lib.ListN.{length, drop, drop-of-length-le}
-use Rattle.decimal.specs.Split.{beforeSpace, fieldEnd}
-use Rattle.decimal.proofs.Splitting.{end-past, end-within, space-here, space-later}
+use Rattle.decimal.specs.Split.{before, fieldEnd}
+use Rattle.decimal.proofs.Splitting.{end-past, end-within, stop-here, stop-later}
 use Rattle.decimal.proofs.field_end.Statement.{statement}
 use Rattle.decimal.proofs.field_end.Tie as tie
 
 abbrev Inv-loop : tie.InvT-loop
-Inv-loop s at i₀ i = (i ≤ length s) × (fieldEnd s at ≡ i + beforeSpace (drop i s))
+Inv-loop s at stop i₀ i = (i ≤ length s) × (fieldEnd stop s at ≡ i + before stop (drop i s))
 
 abbrev μ-loop : tie.MeasureT-loop
-μ-loop s at i₀ i = length s - i
+μ-loop s at stop i₀ i = length s - i
 
 returns : tie.Need-returns Inv-loop μ-loop
-returns c = end-past (c .before .args .s .now) (c .before .args .at) (c .if1 .taken)
+returns c = end-past (c .before .args .stop) (c .before .args .s .now) (c .before .args .at) (c .if1 .taken)
 
 loop-holds : tie.Need-loop-holds Inv-loop μ-loop
-loop-holds c = (omega arith, end-within (c .before .args .s .now) (c .before .args .at) (omega arith))
+loop-holds c = (omega arith, end-within (c .before .args .stop) (c .before .args .s .now) (c .before .args .at) (omega arith))
 
 shared-slice-read-if2 : tie.Need-shared-slice-read-if2 Inv-loop μ-loop
 shared-slice-read-if2 c = search needs
 
 returns-2 : tie.Need-returns-2 Inv-loop μ-loop
 returns-2 c =
-    omega (arith, space-here (c .before .before .before .before .before .args .s .now) (c .before .before .before .loop .i) (c .before .before .loop-test .taken) (c .if2 .taken))
+    omega (arith, stop-here (c .before .before .before .before .before .args .stop) (c .before .before .before .before .before .args .s .now) (c .before .before .before .loop .i) (c .before .before .loop-test .taken) (c .if2 .taken))
 
 add-i : tie.Need-add-i Inv-loop μ-loop
 add-i c = search needs
@@ -36,12 +36,12 @@ loop-less c = search needs
 
 loop-again : tie.Need-loop-again Inv-loop μ-loop
 loop-again c =
-    omega (arith, space-later (c .before .before .before .before .before .args .s .now) (c .before .before .before .loop .i) (c .before .before .loop-test .taken) (c .if2 .left))
+    omega (arith, stop-later (c .before .before .before .before .before .args .stop) (c .before .before .before .before .before .args .s .now) (c .before .before .before .loop .i) (c .before .before .loop-test .taken) (c .if2 .left))
 
 returns-3 : tie.Need-returns-3 Inv-loop μ-loop
-unfolding beforeSpace
+unfolding before
 returns-3 c =
-    let e : beforeSpace (drop (c .before .loop .i) (c .before .before .before .args .s .now)) ≡ 0 =
+    let e : before (c .before .before .before .args .stop) (drop (c .before .loop .i) (c .before .before .before .args .s .now)) ≡ 0 =
     rw (drop-of-length-le (c .before .before .before .args .s .now) (c .loop-test .left)) in
     omega arith
 

@@ -1,6 +1,6 @@
 -- `calls::run::run_counted` meets its contract.
 use borrow.Author.Needs.{needs}
-use Rattle.calls.specs.Line.{counts}
+use Rattle.call_line.specs.Line.{counts}
 use Rattle.calls.proofs.Running.{ran-counted, ran-as}
 use Rattle.calls.proofs.run.run_counted.Statement.{statement}
 use Rattle.calls.proofs.run.run_counted.Tie as tie

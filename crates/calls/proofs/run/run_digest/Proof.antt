@@ -1,6 +1,6 @@
 -- `calls::run::run_digest` meets its contract.
 use borrow.Author.Needs.{needs}
-use Rattle.calls.specs.Line.{digests}
+use Rattle.call_line.specs.Line.{digests}
 use Rattle.calls.proofs.Running.{ran-digest, ran-as}
 use Rattle.calls.proofs.run.run_digest.Statement.{statement}
 use Rattle.calls.proofs.run.run_digest.Tie as tie

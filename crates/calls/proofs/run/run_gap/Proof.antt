@@ -5,7 +5,7 @@ use borrow.Author.Needs.{needs}
 use Rattle.group_order.specs.Offer as O
 use Rattle.history.specs.Calls.{gapAs, toldAs}
 use Rattle.calls.specs.Run.{doneText, runCall}
-use Rattle.calls.specs.Line.{gaps}
+use Rattle.call_line.specs.Line.{gaps}
 use Rattle.calls.proofs.Running.{ran-history, ran-as, done-long}
 use Rattle.calls.proofs.run.run_gap.Statement.{statement}
 use Rattle.calls.proofs.run.run_gap.Tie as tie

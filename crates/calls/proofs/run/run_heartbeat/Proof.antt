@@ -5,7 +5,7 @@ use borrow.Author.Needs.{needs}
 use Rattle.group_order.specs.Offer as O
 use Rattle.history.specs.Calls.{heartbeatAs, toldAs}
 use Rattle.calls.specs.Run.{doneText, runCall}
-use Rattle.calls.specs.Line.{heartbeats}
+use Rattle.call_line.specs.Line.{heartbeats}
 use Rattle.calls.proofs.Running.{ran-history, ran-as, done-long}
 use Rattle.calls.proofs.run.run_heartbeat.Statement.{statement}
 use Rattle.calls.proofs.run.run_heartbeat.Tie as tie

@@ -1,7 +1,7 @@
 -- `calls::run::run_line` meets its contract.
 use mathlib.Core.Path.{sym, ap, _∙_}
 use borrow.Author.Needs.{needs}
-use Rattle.calls.specs.Parsed.{parsedAs}
+use Rattle.call_line.specs.Parsed.{parsedAs}
 use Rattle.calls.proofs.Running.{ran-line}
 use Rattle.calls.proofs.run.run_line.Statement.{statement}
 use Rattle.calls.proofs.run.run_line.Tie as tie

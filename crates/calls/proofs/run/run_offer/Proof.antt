@@ -5,7 +5,7 @@ use borrow.Author.Needs.{needs}
 use Rattle.group_order.specs.Offer as O
 use Rattle.history.specs.Calls.{offerAs, offeredAs}
 use Rattle.calls.specs.Run.{offerText, runCall}
-use Rattle.calls.specs.Line.{offers}
+use Rattle.call_line.specs.Line.{offers}
 use Rattle.calls.proofs.Running.{ran-history, ran-as, offer-long}
 use Rattle.calls.proofs.run.run_offer.Statement.{statement}
 use Rattle.calls.proofs.run.run_offer.Tie as tie

@@ -39,7 +39,7 @@ array-share-prefix-places c =
     let p = w .last .1 .1 .1 .0 in
     let said : _≡_ {A = Answer ℕ × State ℕ × List ℕ} (answered n, t, p) (releaseNoted (a .view .now) (stateOf (a .store .now)) (a .time) (replicate 256 0)) = ap (λ x. (releasedAs x, t, p)) (sym (c .before .before .before .before .answer .given .1)) ∙ w .ensures .0 in
     let k : length p ≡ 256 = search needs in
-    let h : n ≤ 256 = wrote-within n t p (replicate 256 0) refl k (a .view .now) (stateOf (a .store .now)) (a .time) said in
+    let h : n ≤ 256 = wrote-within (replicate 256 0) (a .store .now) (a .view .now) (a .time) refl k said in
     omega (arith, h, k)
 
 slice-aggregate-say-released : tie.Need-slice-aggregate-say-released
@@ -52,7 +52,7 @@ slice-aggregate-say-released c =
     let p = w .last .1 .1 .1 .0 in
     let said : _≡_ {A = Answer ℕ × State ℕ × List ℕ} (answered n, t, p) (releaseNoted (a .view .now) (stateOf (a .store .now)) (a .time) (replicate 256 0)) = ap (λ x. (releasedAs x, t, p)) (sym (c .before .before .before .before .before .answer .given .1)) ∙ w .ensures .0 in
     let k : length p ≡ 256 = search needs in
-    let h : n ≤ 256 = wrote-within n t p (replicate 256 0) refl k (a .view .now) (stateOf (a .store .now)) (a .time) said in
+    let h : n ≤ 256 = wrote-within (replicate 256 0) (a .store .now) (a .view .now) (a .time) refl k said in
     let e : length (take n p) ≡ n = length-take-le n p (omega (arith, h, k)) in
     search (needs, e)
 

@@ -1,0 +1,88 @@
+// For tests: document 01's call list, with a second line after each answer: `held`, the waiting figures of readers 0 to 7, and
+// `waits`, or `idle` where nothing waits.
+use calls::run::run_line;
+use decimal::Put;
+use group_view::view::clear;
+use history::order::GroupOrder;
+use libc::STDOUT_FILENO;
+use line_input::begin;
+use line_input::next_line;
+ghost use Prim.Native.Nat.{_≤_};
+
+// No good line has more than 129 bytes, so one that is cut to fit is bad, as it was.
+type Line = [u8; 256];
+
+// Room for every answer, 3929 bytes, and its figures.
+type Out = [u8; 4096];
+
+// Puts text at `at`, and answers where the next byte goes. Every answer has room.
+fn put(out: &mut Out, at: usize, text: &[u8]) -> usize {
+    let placed = decimal::put_bytes(out, at, text);
+    match placed {
+        Put::At(next) => next,
+        Put::NoRoom => at,
+    }
+}
+
+fn put_figure(out: &mut Out, at: usize, n: usize) -> usize {
+    let at = put(out, at, b" ");
+    let placed = decimal::put_unsigned(out, at, n as u64);
+    match placed {
+        Put::At(next) => next,
+        Put::NoRoom => at,
+    }
+}
+
+// The figures, from `at` on.
+fn put_figures(store: &[u64; 6984], out: &mut Out, at: usize) -> usize {
+    let mut at = put(out, at, b"\nheld");
+    let mut reader: u8 = 0;
+    while reader < 8 {
+        at = put_figure(out, at, GroupOrder::held_for(store, reader));
+        reader += 1;
+    }
+    if GroupOrder::is_empty(store) {
+        return put(out, at, b" idle\n");
+    }
+    put(out, at, b" waits\n")
+}
+
+// Prints the first bytes of an answer, where it has so many.
+fn print(said: &Out, length: usize) {
+    let text: &[u8] = said;
+    if length <= text.len() {
+        io::write_all(STDOUT_FILENO, &text[0..length]);
+    }
+}
+
+// Prints the answer to the first bytes of a line, and the figures.
+fn answer(store: &mut [u64; 6984], view: &mut [u64; 1307], line: &Line, length: usize)
+    requires { ⌜ length ≤ 256 ⌝ }
+{
+    let line: &[u8] = line;
+    let mut said = [0u8; 4096];
+    let n = run_line(store, view, &line[0..length], &mut said);
+    let end = put_figures(store, &mut said, n);
+    print(&said, end);
+}
+
+// So that the loop is seen to end, it counts down from more lines than any run has.
+fn main() {
+    let fresh = GroupOrder::new(GroupOrder::GROUP_TIMEOUT);
+    let mut store = fresh.words;
+    let mut view = [0u64; 1307];
+    clear(&mut view);
+    let mut chunk = io::large_buffer();
+    let mut line = [0u8; 256];
+    let mut input = begin();
+    let mut turns = u64::MAX;
+    while 0 < turns {
+        turns -= 1;
+        let next = next_line(&mut chunk, input, &mut line);
+        if !next.more {
+            return;
+        }
+        answer(&mut store, &mut view, &line, next.length);
+        input = next.input;
+    }
+}

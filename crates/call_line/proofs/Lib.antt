@@ -1,0 +1,4 @@
+pub mod Fields
+pub mod Told
+pub mod Lines
+mod Examples

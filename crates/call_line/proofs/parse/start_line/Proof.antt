@@ -1,0 +1,38 @@
+-- `calls::parse::start_line` meets its contract.
+use mathlib.Core.Bool.{true, false}
+use Rattle.call_line.specs.Parsed.{told, parsedAs}
+use Rattle.call_line.proofs.Lines.{start-told}
+use borrow.Author.Needs.{needs}
+use Rattle.call_line.proofs.parse.start_line.Statement.{statement}
+use Rattle.call_line.proofs.parse.start_line.Tie as tie
+
+time-at-requires : tie.Need-time-at-requires
+time-at-requires c κs = search needs
+
+field-count-requires : tie.Need-field-count-requires
+field-count-requires c κs = search needs
+
+returns : tie.Need-returns
+unfolding told parsedAs
+returns c =
+    let k = c .before .before in
+    let m = k .field-count in
+    let t = k .before .time-at in
+    let a = k .before .before .before .args in
+    start-told (a .line .now) (m .result) (m .ensures) true
+    (t .result)
+    (t .ensures) (c .if1 .taken)
+
+returns-2 : tie.Need-returns-2
+unfolding told parsedAs
+returns-2 c =
+    let k = c .before .before in
+    let m = k .field-count in
+    let t = k .before .time-at in
+    let a = k .before .before .before .args in
+    start-told (a .line .now) (m .result) (m .ensures) false
+    (t .result)
+    (t .ensures) (c .if1 .left)
+
+pub start-line-spec : {M : Type 1} → statement M
+start-line-spec = tie.close (tie.spec time-at-requires field-count-requires returns returns-2)

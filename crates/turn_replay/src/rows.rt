@@ -1,0 +1,140 @@
+// The progress rows that wait for the next turn.
+use crate::say::Out;
+use crate::say::put;
+use crate::say::say_bad;
+use crate::say::say_ok;
+use call_line::line::LineGap;
+use call_line::line::LineHeartbeat;
+use call_line::parse::Parsed;
+use call_line::parse::parse;
+use decimal::field_end;
+use presentation::ordering::Beat;
+use presentation::ordering::Heard;
+use presentation::ordering::Progress;
+
+pub(crate) struct Rows {
+    pub list: [Progress; 64],
+    pub count: usize,
+}
+
+// The rows after a call, and how many bytes of the answer there are.
+pub(crate) struct Answer {
+    pub rows: Rows,
+    pub length: usize,
+}
+
+// The rows stay.
+pub(crate) fn said(rows: Rows, length: usize) -> Answer {
+    Answer { rows, length }
+}
+
+pub(crate) fn bad(rows: Rows, out: &mut Out) -> Answer {
+    said(rows, say_bad(out))
+}
+
+pub(crate) fn emptied(rows: Rows, length: usize) -> Answer {
+    let mut rows = rows;
+    rows.count = 0;
+    said(rows, length)
+}
+
+fn row_of(line: LineGap, heartbeat: Heard) -> Progress {
+    let gap = line.gap();
+    let group = gap.group;
+    let writer = gap.writer;
+    Progress {
+        group,
+        writer,
+        reader: gap.reader,
+        heartbeat,
+        gap_end: gap.number,
+    }
+}
+
+fn latest(line: LineHeartbeat) -> Heard {
+    let digest = line.digest;
+    let secure = line.secure;
+    let beat = Beat {
+        first: line.first,
+        last: line.last,
+        current: line.current,
+        digest,
+        secure,
+    };
+    Heard::Latest(beat)
+}
+
+pub(crate) fn no_rows() -> Rows {
+    let line = LineGap {
+        group: 0,
+        writer: 0,
+        reader: 0,
+        number: 0,
+    };
+    let row = row_of(line, Heard::Nothing);
+    let list = [row; 64];
+    Rows { list, count: 0 }
+}
+
+fn add_row(rows: Rows, row: Progress, out: &mut Out) -> Answer {
+    let mut rows = rows;
+    let count = rows.count;
+    if 63 < count {
+        return bad(rows, out);
+    }
+    rows.list[count] = row;
+    rows.count = count + 1;
+    said(rows, say_ok(out))
+}
+
+// The call of the line that the three spell together.
+fn parse_joined(letter: &[u8], front: &[u8], back: &[u8]) -> Parsed {
+    let mut line = [0u8; 256];
+    let at = put(&mut line, 0, letter);
+    let at = put(&mut line, at, front);
+    let end = put(&mut line, at, back);
+    if 256 < end {
+        return Parsed::Bad;
+    }
+    parse(&line[0..end])
+}
+
+// A row without a heartbeat has the fields of a `G`.
+pub(crate) fn run_gap_row(rows: Rows, fields: &[u8], out: &mut Out) -> Answer {
+    let parsed = parse_joined(b"G ", fields, b"");
+    let Parsed::Gap(gap) = parsed else {
+        return bad(rows, out);
+    };
+    add_row(rows, row_of(gap, Heard::Nothing), out)
+}
+
+// Where the field after the one that ends at `end` begins. No line has more than 256 bytes.
+fn after(end: usize) -> usize {
+    if end < 256 {
+        return end + 1;
+    }
+    256
+}
+
+// A row with one has those of a `G`, and then those that an `H` has after the writer.
+pub(crate) fn run_heard_row(rows: Rows, fields: &[u8], out: &mut Out) -> Answer {
+    let group = field_end(fields, 0, b' ');
+    let writer = field_end(fields, after(group), b' ');
+    let reader = field_end(fields, after(writer), b' ');
+    let gap = field_end(fields, after(reader), b' ');
+    if fields.len() < writer {
+        return bad(rows, out);
+    }
+    if fields.len() < gap {
+        return bad(rows, out);
+    }
+    let parsed = parse_joined(b"G ", &fields[0..gap], b"");
+    let Parsed::Gap(gap_line) = parsed else {
+        return bad(rows, out);
+    };
+    let parsed = parse_joined(b"H ", &fields[0..writer], &fields[gap..]);
+    let Parsed::Heartbeat(heartbeat) = parsed else {
+        return bad(rows, out);
+    };
+    add_row(rows, row_of(gap_line, latest(heartbeat)), out)
+}
