@@ -4,3 +4,4 @@ pub mod Running
 pub mod Places
 pub mod Releasing
 pub mod Listing
+pub mod Stepping

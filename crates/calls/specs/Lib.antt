@@ -1,3 +1,4 @@
 pub mod Run
 pub mod Said
 pub mod Runs
+pub mod Steps
