@@ -1,5 +1,5 @@
-//! Document 01's example and figures, and the differences that
-//! design/READINGS.md lists, as the Rust answers them.
+//! Document 01's example and figures, and differences of
+//! docs/DIFFERENCES.md, as the Rust answers them.
 
 use oracle::call_list::CallList;
 use oracle::replay::{Replay, LIST_WALK, TOO_LONG};
