@@ -1,4 +1,4 @@
--- Lines of document 01's list, and lines that are bad.
+-- Lines that are read, and lines that are bad.
 use mathlib.Core.Path.{_≡_, refl}
 use mathlib.Core.List.{_∷_, []}
 use mathlib.Core.Option.{none, some}

@@ -3,7 +3,6 @@ use Prim.Native.Nat.{ℕ, zero, suc, _+_, _-_, _≤_, _<_}
 use mathlib.Core.Path.{_≡_, refl, ap, _∙_}
 use mathlib.Core.Bool.{true, false, cond}
 use mathlib.Core.List.{List, [], _∷_}
-use native.Mathlib.Nat.{min-eq-left}
 use native.Mathlib.Numerals.{add-one}
 use native.Mathlib.Omega.{arith}
 use borrow.Author.Tests.{eq-eqb, ne-eqb}
@@ -11,11 +10,11 @@ use lib.Dec.{eqb}
 use lib.ListN.{length, getD, take, drop, length-drop, drop-of-length-le}
 use lib.Seq.{drop-drop, drop-cons}
 use Rattle.decimal.specs.Split.{stopOr, before, fieldEnd}
-use Rattle.decimal.proofs.Splitting.{before-le}
+use Rattle.decimal.proofs.Splitting.{end-within, before-le}
 use Rattle.call_line.specs.Line.{lengthen, fieldsOf, fieldAt}
 
 -- the fields of a list that has a space, and of one that has none
-pub fields-split : (s : List ℕ) → before 32 s < length s
+fields-split : (s : List ℕ) → before 32 s < length s
     → fieldsOf s ≡ take (before 32 s) s ∷ fieldsOf (drop (suc (before 32 s)) s)
 unfolding before stopOr fieldsOf lengthen
 fields-split [] h = absurd (omega arith)
@@ -25,7 +24,7 @@ fields-split (b ∷ s) h = (elim (eqb b 32)
     ≡ take (stopOr t (before 32 s)) (b ∷ s) ∷ fieldsOf (drop (suc (stopOr t (before 32 s))) (b ∷ s)))
     [ true ↦ λ _. refl | false ↦ λ g. ap (λ fs. lengthen b fs) (fields-split s (omega arith)) ]) h
 
-pub fields-last : (s : List ℕ) → length s ≤ before 32 s → fieldsOf s ≡ s ∷ []
+fields-last : (s : List ℕ) → length s ≤ before 32 s → fieldsOf s ≡ s ∷ []
 unfolding before stopOr fieldsOf lengthen
 fields-last [] h = refl
 fields-last (b ∷ s) h = (elim (eqb b 32)
@@ -48,8 +47,7 @@ first-field (b ∷ s) = (elim (eqb b 32)
 
 module _ (s : List ℕ) (at e : ℕ) (h : at ≤ length s) (p : e ≡ fieldEnd 32 s at) where
   end-at : e ≡ at + before 32 (drop at s)
-  unfolding fieldEnd
-  end-at = p ∙ rw (min-eq-left h)
+  end-at = p ∙ end-within 32 s at h
 
   pub end-le : e ≤ length s
   end-le = omega (arith, end-at, before-le 32 (drop at s), length-drop at s)
@@ -92,7 +90,7 @@ unfolding lengthen
 lengthen-some b [] = omega arith
 lengthen-some b (f ∷ fs) = omega arith
 
-some-field : (s : List ℕ) → 0 < length (fieldsOf s)
+pub some-field : (s : List ℕ) → 0 < length (fieldsOf s)
 unfolding fieldsOf
 some-field [] = omega arith
 some-field (b ∷ s) = (elim (eqb b 32)

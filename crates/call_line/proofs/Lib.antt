@@ -1,4 +1,5 @@
 pub mod Fields
 pub mod Told
 pub mod Lines
+pub mod Longest
 mod Examples

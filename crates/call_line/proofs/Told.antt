@@ -1,6 +1,6 @@
 -- Laws of what was read of fields: narrower numbers, `-`, and several fields together.
 use Prim.Native.Nat.{ℕ, _≤_, _<_}
-use mathlib.Core.Path.{_≡_, refl, ap, _∙_}
+use mathlib.Core.Path.{_≡_, refl, sym, ap, _∙_}
 use mathlib.Core.Bool.{Bool, true, false, cond, _&&_}
 use mathlib.Core.List.{List, [], _∷_}
 use mathlib.Core.Option.{Option, none, some}
@@ -63,12 +63,12 @@ module _ {A B : Type 0} (f : A → B) (a : A) where
 
 -- ---- a line of n fields, m of which are there
 
-neither : {A : Type 0} (t : Bool) → none ≡ cond {A = Option A} t none none
-neither true = refl
-neither false = refl
+pub neither : {A : Type 0} {a b : Option A} (t : Bool) → a ≡ none → b ≡ none → cond t a b ≡ none
+neither true p q = p
+neither false p q = q
 
 pub line-told : {A : Type 0} (n : ℕ) (l : List ℕ) (ok : Bool) (v : A) (m : ℕ) → m ≡ length (fieldsOf l)
     → (b : Bool) → (ok && eqb m n) ≡ b → told b v ≡ sized n l (told ok v)
 unfolding told sized
 line-told n l true v m c b h = rw (← c, h)
-line-told n l false v m c b h = rw (← h) (neither (eqb (length (fieldsOf l)) n))
+line-told n l false v m c b h = rw (← h) (sym (neither (eqb (length (fieldsOf l)) n) refl refl))

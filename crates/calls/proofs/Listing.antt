@@ -1,7 +1,7 @@
 -- Laws of a call list run: texts put one after the other as far as there is room, and the lines of a text.
 use Prim.Native.Nat.{ℕ, suc, _+_, _-_, _≤_, _<_, min}
 use mathlib.Core.Path.{_≡_, refl, sym, ap, _∙_, subst}
-use mathlib.Core.Bool.{Bool, true, false, cond}
+use mathlib.Core.Bool.{true, false, cond}
 use mathlib.Core.List.{List, [], _∷_, _++_, append-assoc}
 use mathlib.Core.Option.{Option}
 use native.Mathlib.Nat.{min-eq-left, min-eq-right}
@@ -11,7 +11,7 @@ use lib.Dec.{eqb, leb}
 use lib.ListN.{length, take, drop, length-append, length-take, length-drop, drop-of-length-le}
 use lib.Seq.{paste, paste-zero, take-length, take-all, take-append-le, take-append-add, take-append-seam, length-paste, take-paste, drop-paste, drop-drop}
 use Rattle.decimal.specs.Split.{stopOr, before, fieldEnd}
-use Rattle.decimal.proofs.Splitting.{before-le}
+use Rattle.decimal.proofs.Splitting.{before-le, end-within}
 use Rattle.decimal.specs.Print.{fits, putBy, putAt}
 use Rattle.group_order.specs.State.{fresh}
 use Rattle.group_view.specs.View.{Cleared}
@@ -157,8 +157,7 @@ end-in s i = (omega arith, omega (arith, before-le 10 (drop i s), length-drop i 
 
 module _ (s : List ℕ) (i e : ℕ) (h : i < length s) (p : e ≡ fieldEnd 10 s i) where
   end-at : e ≡ i + before 10 (drop i s)
-  unfolding fieldEnd
-  end-at = p ∙ rw (min-eq-left {n = i} {m = length s} (omega arith))
+  end-at = p ∙ end-within 10 s i (omega arith)
 
   line-split : e < length s → linesOf (drop i s) ≡ take (e - i) (drop i s) ∷ linesOf (drop (e + 1) s)
   line-split l =

@@ -1,7 +1,7 @@
 -- The places that a release writes print as the samples that it hands out.
-use Prim.Native.Nat.{ℕ, zero, suc, _+_, _*_, _/_, _%_, _^_, _≤_, _<_, min}
-use mathlib.Core.Path.{_≡_, refl, ap, _∙_}
-use mathlib.Core.Bool.{Bool, true, false, not, _&&_, cond}
+use Prim.Native.Nat.{ℕ, _+_, _*_, _/_, _%_, _^_, _≤_, _<_, min}
+use mathlib.Core.Path.{_≡_, refl, sym, ap, _∙_}
+use mathlib.Core.Bool.{Bool, true, false, not, _&&_, cond, Bool·not-not}
 use mathlib.Core.List.{List, [], _∷_, _++_, map}
 use native.Mathlib.Omega.{arith}
 use borrow.Author.Tests.{ltb-true, lt-ltb}
@@ -12,9 +12,10 @@ use Rattle.group_order.specs.Lists.{keep, all, count}
 use Rattle.group_order.specs.Entry.{What, sample, setEnd, Entry, isSampleW, isSample}
 use Rattle.group_order.specs.Release.{View, released}
 use Rattle.group_order.specs.Run.{placeW, placeOf}
-use Rattle.group_order.proofs.Lists.{not-both, and-left, and-right, and-true, all-map, all-keep, all-take}
+use Rattle.group_order.proofs.Lists.{not-both, and-left, and-right, not-true, all-map, all-keep, all-take, count-zero}
 use Rattle.group_order.proofs.Conserve.{stock, released-stock}
 use Rattle.group_view.specs.Table.{rows, table}
+use Rattle.group_view.proofs.Table.{all-rows}
 use Rattle.history.specs.Store.{tag, optional, rowOf, rowsIn, rowsOf, staged, stateOf}
 use Rattle.calls.specs.Run.{itemW, sampleText, samplesText}
 use Rattle.calls.specs.Said.{placeText, placesText}
@@ -27,30 +28,11 @@ wideW r w = isSampleW w && not (ltb r 256 && ltb (itemW w) (2 ^ 32))
 unfoldable pub wide : Entry ℕ → Bool
 wide e = wideW (e .reader) (e .what)
 
--- ---- lists
-
-not-not : (b : Bool) → not (not b) ≡ true → b ≡ true
-not-not true e = refl
-not-not false e = e
-
-module _ {A : Type 0} (p : A → Bool) where
-  none-count : (l : List A) → all (λ a. not (p a)) l ≡ true → count p l ≡ 0
-  unfolding all keep count
-  none-count [] h = refl
-  none-count (a ∷ l) h =
-      let k = none-count l (and-right (not (p a)) _ h) in
-      (elim (p a) as (λ b. not b ≡ true → length (cond b (a ∷ keep p l) (keep p l)) ≡ 0) [ true ↦ λ e. not-both false e refl | false ↦ λ e. k ]) (and-left (not (p a)) _ h)
-
-  count-none : (l : List A) → count p l ≡ 0 → all (λ a. not (p a)) l ≡ true
-  unfolding all keep count
-  count-none [] h = refl
-  count-none (a ∷ l) h =
-      (elim (p a) as (λ b. length (cond b (a ∷ keep p l) (keep p l)) ≡ 0 → not b && all (λ x. not (p x)) l ≡ true) [ true ↦ λ e. absurd (omega (arith, e)) | false ↦ λ e. count-none l e ]) h
-
-all-rows : {A : Type 0} (p : A → Bool) (d : List ℕ → A) (k n : ℕ) (l : List ℕ) → ((r : List ℕ) → p (d r) ≡ true) → all p (rows d k n l) ≡ true
-unfolding all rows
-all-rows p d k zero l h = refl
-all-rows p d k (suc n) l h = and-true (p (d (take k l))) _ (h (take k l)) (all-rows p d k n (drop k l) h)
+zero-none : {A : Type 0} (p : A → Bool) (l : List A) → count p l ≡ 0 → all (λ a. not (p a)) l ≡ true
+unfolding all keep count
+zero-none p [] h = refl
+zero-none p (a ∷ l) h =
+    (elim (p a) as (λ b. length (cond b (a ∷ keep p l) (keep p l)) ≡ 0 → not b && all (λ x. not (p x)) l ≡ true) [ true ↦ λ e. absurd (omega (arith, e)) | false ↦ λ e. zero-none p l e ]) h
 
 -- ---- the store holds none
 
@@ -67,9 +49,9 @@ staged-narrow : (k n : ℕ) (l : List ℕ) → count (λ e. wide e) (staged k (r
 unfolding staged rowsIn table
 staged-narrow k n l =
     let t = rows (λ r. rowOf r) 12 512 (drop 840 l) in
-    none-count (λ e. wide e) (staged k (rowsIn n l))
+    count-zero (λ e. wide e) (λ e. not (wide e)) (λ e. not-true (wide e)) (staged k (rowsIn n l))
     (all-map (λ e. not (wide e)) (λ r. r .entry) (keep (λ r. eqb (r .stage) k) (take n t))
-    ∙ all-keep (λ r. not (wide (r .entry))) (λ r. eqb (r .stage) k) (take n t) (all-take (λ r. not (wide (r .entry))) n t (all-rows (λ r. not (wide (r .entry))) (λ r. rowOf r) 12 512 (drop 840 l) row-narrow)))
+    ∙ all-keep (λ r. not (wide (r .entry))) (λ r. eqb (r .stage) k) (take n t) (all-take (λ r. not (wide (r .entry))) n t (all-rows (λ r. rowOf r) (λ r. not (wide (r .entry))) row-narrow 12 512 (drop 840 l))))
 
 wide-sample : (e : Entry ℕ) → wide e ≡ true → isSample e ≡ true
 unfolding wide wideW isSample
@@ -81,7 +63,7 @@ unfolding stock stateOf rowsOf
 out-narrow l v now =
     let w = released (stateOf l) v now .1 in
     let b = released-stock (λ e. wide e) wide-sample (stateOf l) v now in
-    count-none (λ e. wide e) (w .out) (omega (arith, b, staged-narrow 0 (min (getD l 2 0) 256) l, staged-narrow 1 (min (getD l 2 0) 256) l))
+    zero-none (λ e. wide e) (w .out) (omega (arith, b, staged-narrow 0 (min (getD l 2 0) 256) l, staged-narrow 1 (min (getD l 2 0) 256) l))
 
 -- ---- their text
 
@@ -91,7 +73,7 @@ place-text : (r : ℕ) (w : What ℕ) → isSampleW w ≡ true → not (wideW r 
 unfolding wideW
 place-text r (setEnd f o) s h = not-both false s refl
 place-text r (sample i) s h =
-    let n = not-not (ltb r 256 && ltb i (2 ^ 32)) h in
+    let n = sym (Bool·not-not (ltb r 256 && ltb i (2 ^ 32))) ∙ h in
     let a : r < 256 = ltb-true r 256 (and-left (ltb r 256) _ n) in
     let b : i < 2 ^ 32 = ltb-true i (2 ^ 32) (and-right (ltb r 256) _ n) in
     let x : (r * 2 ^ 32 + i) / 2 ^ 32 ≡ r = omega (arith, b) in

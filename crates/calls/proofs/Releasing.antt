@@ -1,4 +1,5 @@
 -- A release on the lent words is one on the rows of the lines, and what it prints has room.
+use Prim.{tt}
 use Prim.Native.Nat.{ℕ, _+_, _*_, _≤_}
 use mathlib.Core.Path.{_≡_, refl, sym, ap, _∙_, subst}
 use mathlib.Core.Bool.{true, false, not, cond}
@@ -20,7 +21,7 @@ use Rattle.group_order.proofs.Stays.{release-cases, released-stays}
 use Rattle.group_order.proofs.Conserve.{OnlySamples, only-samples}
 use Rattle.group_view.specs.View.{more, viewOf}
 use Rattle.history.specs.Store.{stateOf}
-use Rattle.history.specs.Calls.{countOut, releaseTo, releaseNoted}
+use Rattle.history.specs.Calls.{countOut, releaseTo, releaseNoted, Kept}
 use Rattle.call_line.specs.Line.{releases}
 use Rattle.calls.specs.Run.{Calls, rowsOf, refusedText, samplesText, countsText, outText, releaseText, runCall}
 use Rattle.calls.specs.Said.{Said, placesText}
@@ -111,15 +112,21 @@ module _ (l : List ℕ) {n : ℕ} {t : State ℕ} {places : List ℕ} (k : lengt
 
 -- ---- a release run
 
+kept-out : (a : Answer (Outcome ℕ)) (s s′ : List ℕ) → Kept (countOut a) s s′ → Kept a s s′
+unfolding Kept
+kept-out (refused n) s s′ k = k
+kept-out (answered r) s s′ k = k
+
 ran-release : (l : List ℕ) {a : Answer ℕ} {now r : ℕ} {s store view store′ places out out′ : List ℕ}
     → length l ≡ 256 → _≡_ {A = Told} (a, stateOf store′, places) (releaseNoted view (stateOf store) now l)
-    → Said 0 s r out out′ → length s ≤ length out
+    → Kept a store store′ → Said 0 s r out out′ → length s ≤ length out
     → ((c : Calls) → Stands c store view → Says (a, stateOf store′, places) l (releaseOf c now) → s ≡ releaseText (releaseOf c now .0) (releaseOf c now .1 .counts))
     → Ran (some (releases now)) r store view out store′ view out′
 unfolding runCall
-ran-release l {now = now} j e x h g =
+ran-release l {now = now} {store = store} {store′ = store′} j e k x h g =
     ran-said x h
     (λ c s. history-stands (ap (λ y. y .1) (stands-release now l s j e)) s)
+    (λ c s. (kept-out (releaseOf c now .0) store store′ (subst (λ (b : Answer ℕ). Kept b store store′) (ap (λ y. y .0) (stands-release now l s j e)) k), refl))
     (λ c s. g c s (stands-release now l s j e))
 
 -- the places fit the list
@@ -133,11 +140,12 @@ pub ran-released : (l : List ℕ) {n now r : ℕ} {k : Counts} {store view store
     → length l ≡ 256 → length places ≡ 256 → _≡_ {A = Told} (answered n, stateOf store′, places) (releaseNoted view (stateOf store) now l)
     → k ≡ stateOf store′ .counts → Said 0 (111 ∷ 117 ∷ 116 ∷ placesText (take n places) ++ countsText k) r out out′ → length out ≡ 4096
     → Ran (some (releases now)) r store view out store′ view out′
+unfolding Kept
 ran-released l {n} {now} {r} {k} {store} {view} {store′} {places} j m e q x h =
     let text : (c : Calls) → Stands c store view → ((111 ∷ 117 ∷ 116 ∷ placesText (take n places) ++ countsText k) ≡ releaseText (releaseOf c now .0) k) × (length (placesText (take n places)) ≤ 15 * 256) =
     λ c s. out-text l m (releaseOf c now .0) (releaseOf c now .1) k (stands-release now l s j e) (subst (λ (y : State ℕ). Handed (outcomeOf (release y (rowsOf c) now 256 .0) .out)) (s .history) (handed store (rowsOf c) now 256)) in
     let some-calls = every-stands store view in
-    ran-release l j e x (omega (arith, text (some-calls .0) (some-calls .1) .1, counts-long k, h, length-append (111 ∷ 117 ∷ 116 ∷ placesText (take n places)) (countsText k)))
+    ran-release l j e tt x (omega (arith, text (some-calls .0) (some-calls .1) .1, counts-long k, h, length-append (111 ∷ 117 ∷ 116 ∷ placesText (take n places)) (countsText k)))
     (λ c s f. text c s .0 ∙ ap (λ (z : Counts). releaseText (releaseOf c now .0) z) (q ∙ ap (λ y. y .1 .counts) f))
 
 refusal-text : (n : ℕ) (a : Answer (Outcome ℕ)) (c : Counts) → refused n ≡ countOut a → refusedText n ≡ releaseText a c
@@ -146,7 +154,7 @@ refusal-text n (answered r) c e = let z : _≡_ {A = ℕ} 0 1 = cc in absurd (om
 
 pub ran-refused : (l : List ℕ) {n now r : ℕ} {store view store′ places out out′ : List ℕ}
     → length l ≡ 256 → _≡_ {A = Told} (refused n, stateOf store′, places) (releaseNoted view (stateOf store) now l)
-    → Said 0 (refusedText n) r out out′ → length out ≡ 4096
+    → Kept {X = ℕ} (refused n) store store′ → Said 0 (refusedText n) r out out′ → length out ≡ 4096
     → Ran (some (releases now)) r store view out store′ view out′
-ran-refused l {n} {now} j e x h =
-    ran-release l j e x (omega (arith, refused-long n, h)) (λ c s f. refusal-text n (releaseOf c now .0) (releaseOf c now .1 .counts) (ap (λ y. y .0) f))
+ran-refused l {n} {now} j e z x h =
+    ran-release l j e z x (omega (arith, refused-long n, h)) (λ c s f. refusal-text n (releaseOf c now .0) (releaseOf c now .1 .counts) (ap (λ y. y .0) f))

@@ -1,11 +1,11 @@
 -- Laws of what is said: texts put one after the other are put at once.
-use Prim.Native.Nat.{ℕ, zero, suc, _+_, _≤_, _<_, min}
-use mathlib.Core.Path.{_≡_, refl, sym, ap, _∙_, subst}
+use Prim.Native.Nat.{ℕ, zero, suc, _+_, _≤_, _<_}
+use mathlib.Core.Path.{_≡_, sym, ap, _∙_, subst}
 use mathlib.Core.List.{List, [], _∷_, _++_, append-nil, append-assoc}
 use mathlib.Core.Option.{none, some}
 use native.Mathlib.Omega.{arith}
 use borrow.Author.Tests.{le-leb}
-use lib.ListN.{length, getD, take, drop, length-append, length-take, length-drop, take-append-drop}
+use lib.ListN.{length, getD, take, drop, length-append, length-drop, take-append-drop}
 use Rattle.decimal.specs.Print.{fits, placeBy, placeAfter, putBy, putAt}
 use Rattle.decimal.proofs.Laws.{put-both}
 use Rattle.calls.specs.Said.{Said, placeText, placesText}

@@ -1,20 +1,20 @@
--- Lines run as steps of the history's definitions: every state of a list is a run of calls from a fresh history.
+-- Lines run as steps of the history's definitions: from its last `T`, or from its start, a list is a run of calls from a fresh history.
 use Prim.{Unit}
 use Prim.Native.Nat.{ℕ}
 use mathlib.Core.Path.{_≡_, refl, ap, _∙_}
-use mathlib.Core.Bool.{true, false, true≢false}
-use mathlib.Core.List.{List, [], _∷_}
+use mathlib.Core.Bool.{false, true≢false}
+use mathlib.Core.List.{List, [], _∷_, _++_}
 use lib.ListN.{replicate, length-replicate}
 use mathlib.Core.Option.{Option, none, some}
 use Rattle.coherent_set.specs.Answer.{Answer, refused, answered}
-use Rattle.group_order.specs.State.{Counts}
+use Rattle.group_order.specs.State.{Counts, fresh}
 use Rattle.group_order.specs.Offer as O
 use Rattle.group_order.specs.Lists.{any}
 use Rattle.group_order.proofs.Lists.{or-left, or-right}
 use Rattle.group_order.specs.Release.{Outcome, release}
 use Rattle.group_order.specs.Run as R
 use Rattle.call_line.specs.Line.{Line, starts, counts, digests, offers, heartbeats, gaps, releases, lineOf}
-use Rattle.calls.specs.Run.{Calls, rowsOf, withHistory, offerText, doneText, releaseText, runIf, runCall, runLine}
+use Rattle.calls.specs.Run.{Calls, afresh, begun, rowsOf, withHistory, offerText, doneText, releaseText, runIf, runCall, runLine}
 use Rattle.calls.specs.Steps.{saidText, stepped, callOf, isStart, inFront, after, callsOf}
 
 offer-said : (a : Answer O.Fate) (c : Counts) → offerText a ≡ saidText (R.saidOffer a) c
@@ -70,3 +70,19 @@ lines-run c [] h = refl
 lines-run c (l ∷ ls) h =
     lines-run (runLine c l .0) ls (or-right (isStart (lineOf l)) _ h)
     ∙ line-run c (lineOf l) (callsOf (runLine c l .0) ls) (or-left _ _ h)
+
+-- from a `T` on, whatever was before, and from the start of a list
+pub list-run : (c : Calls) (l : List ℕ) (ls : List (List ℕ)) (t : ℕ) → lineOf l ≡ some (starts t) → any (λ m. isStart (lineOf m)) ls ≡ false
+    → after c (l ∷ ls) .history ≡ R.run (fresh t) (callsOf (afresh t) ls)
+unfolding after runLine runCall afresh
+list-run c l ls t e h = ap (λ (k : Option Line). after (runIf c k .0) ls .history) e ∙ lines-run (afresh t) ls h
+
+pub begun-run : (ls : List (List ℕ)) → any (λ m. isStart (lineOf m)) ls ≡ false → after begun ls .history ≡ R.run (fresh 1000000000) (callsOf begun ls)
+unfolding begun afresh
+begun-run ls h = lines-run begun ls h
+
+-- a list in two parts, as before its last `T` and from there on
+pub after-append : (c : Calls) (ks ls : List (List ℕ)) → after c (ks ++ ls) ≡ after (after c ks) ls
+unfolding after
+after-append c [] ls = refl
+after-append c (k ∷ ks) ls = after-append (runLine c k .0) ks ls

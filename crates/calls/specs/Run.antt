@@ -5,7 +5,6 @@ use mathlib.Core.Bool.{cond}
 use mathlib.Core.List.{List, [], _∷_, _++_}
 use mathlib.Core.Option.{Option, none, some}
 use lib.Dec.{eqb}
-use lib.ListN.{length, replicate}
 use Rattle.coherent_set.specs.Answer.{Answer, refused, answered}
 use Rattle.decimal.specs.Print.{digitsOf}
 use Rattle.group_order.specs.Entry.{What, sample, setEnd, Entry}

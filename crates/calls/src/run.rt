@@ -22,7 +22,7 @@ ghost use mathlib.Core.Path.{_≡_};
 ghost use mathlib.Core.Option.{some, none};
 ghost use lib.ListN.{length};
 ghost use Rattle.call_line.specs.Line.{starts, counts, digests, offers, heartbeats, gaps, releases, lineOf};
-ghost use Rattle.call_line.specs.Parsed.{pairOf, digestRowOf, offerOf, heartbeatOf, gapOf, parsedAs};
+ghost use Rattle.call_line.specs.Parsed.{pairOf, digestRowOf, offerOf, heartbeatOf, gapOf};
 ghost use Rattle.calls.specs.Runs.{Ran};
 
 fn size(s: &[u8]) -> usize
@@ -147,7 +147,8 @@ fn run_bad(store: &mut [u64; 6984], view: &mut [u64; 1307], out: &mut [u8; 4096]
     say_bad(out, 0)
 }
 
-// Runs a line: the words stand for the calls after it, and out's first bytes, as many as the answer says, are what it prints.
+// Runs a line: the words stand for the calls after it, and out's first bytes, as many as the answer says, are what it prints. A
+// bad line and a refused call leave every word of store and view.
 pub fn run_line(
     store: &mut [u64; 6984],
     view: &mut [u64; 1307],

@@ -18,7 +18,7 @@ use Rattle.decimal.specs.Read.{given, isDigit, readOn, plain, atMost, re
 
 -- ---- the digits
 
-given-none : (m : ℕ) (t : Bool) (r : Option ℕ) → atMost m r ≡ none → atMost m (given t r) ≡ none
+pub given-none : (m : ℕ) (t : Bool) (r : Option ℕ) → atMost m r ≡ none → atMost m (given t r) ≡ none
 unfolding atMost given
 given-none m true r h = h
 given-none m false r h = refl

@@ -1,4 +1,4 @@
--- Where a field of text ends.
+-- Where a field or a line of text ends.
 use Prim.Native.Nat.{ℕ, suc, _+_, min}
 use mathlib.Core.Bool.{Bool, true, false}
 use mathlib.Core.List.{List, [], _∷_}
@@ -14,5 +14,6 @@ unfoldable pub before : ℕ → List ℕ → ℕ
 before stop [] = 0
 before stop (b ∷ s) = stopOr (eqb b stop) (before stop s)
 
+-- where the field or line that begins at `at` ends: at `stop`, or with the text
 unfoldable pub fieldEnd : ℕ → List ℕ → ℕ → ℕ
 fieldEnd stop s at = min at (length s) + before stop (drop at s)

@@ -1,4 +1,4 @@
-// The decimal fields of a line: numbers read from text and printed, and where a field ends.
+// The decimal fields of a line: numbers read from text and printed, and where a field or a line ends.
 ghost use mathlib.Core.Path.{_≡_};
 ghost use Prim.Native.Nat.{_≤_, _-_, _^_};
 ghost use mathlib.Core.Option.{some};

@@ -1,5 +1,5 @@
--- What the words of a group view mean: the counted rows and the digest rows of a release, and whether there were more than it holds.
-use Prim.Native.Nat.{ℕ, _+_, _-_, _*_, _%_, _^_, min, _<_}
+-- What the words of a group view mean: the counted rows and the digest rows of a release, and whether it is refused whatever they are.
+use Prim.Native.Nat.{ℕ, _+_, _-_, _*_, _%_, _^_, min}
 use mathlib.Core.Bool.{Bool, true, false, not, _||_, cond}
 use mathlib.Core.List.{List, [], _∷_, _++_, map}
 use mathlib.Core.Option.{Option, some, none}
@@ -31,7 +31,7 @@ digestRowOf r = record { group = guidOf (getD r 0 0) (getD r 1 0); digest = getD
 unfoldable pub digestRowAt : ℕ → List ℕ → DigestRow
 digestRowAt i v = digestRowOf (take 3 (drop (1283 + i * 3) v))
 
--- the words: 0 counted rows, 1 digest rows, 2 whether there were more; then 256 counted rows and 8 digest rows
+-- the words: 0 counted rows, 1 digest rows, 2 whether there were more or the view was spoiled; then 256 counted rows and 8 digest rows
 unfoldable pub pairsOf : List ℕ → List Pair
 pairsOf v = take (min (getD v 0 0) 256) (table (λ r. pairOf r) 5 256 3 v)
 

@@ -234,7 +234,7 @@ pub fn is_accepted(view: &[u64; 1307], group: Key, digest: u64) -> bool
     false
 }
 
-// A release on the view is refused from now on: 9.
+// A release on the view is refused, 9, until it is cleared.
 pub fn spoil(view: &mut [u64; 1307])
     ensures { λ _. ⌜ Spoiled (now (view .entry)) (now (view .exit)) ⌝ }
 {

@@ -2,7 +2,8 @@
 use libc::STDIN_FILENO;
 ghost use Prim.Native.Nat.{min};
 ghost use mathlib.Core.Path.{_≡_};
-ghost use Rattle.line_input.specs.Input.{untaken, lineTo, LineRead};
+ghost use lib.ListN.{length};
+ghost use Rattle.line_input.specs.Input.{inputTo, unread, lineTo, LineRead};
 
 // The bytes that were read and not yet taken: those of the lent chunk from `at` to `count`.
 pub struct Input {
@@ -19,7 +20,7 @@ pub struct Line {
 
 // Nothing is read yet.
 pub fn begin() -> Input
-    ensures { λ r. ⌜ untaken r ≡ 0 ⌝ }
+    ensures { λ r. ⌜ r ≡ unread ⌝ }
 {
     Input { at: 0, count: 0 }
 }
@@ -34,17 +35,31 @@ fn within(count: usize) -> usize
     65536
 }
 
-// Takes the next line of the input. A longer one than 256 bytes is cut to 256. So that the loop is seen to end, it counts down
-// from more bytes than any line has.
-pub fn next_line(chunk: &mut [u8; 65536], input: Input, line: &mut [u8; 256]) -> Line
-    ensures { λ r. ⌜ LineRead r ⌝ }
+fn size(s: &[u8]) -> usize
+    ensures { λ r. ⌜ r ≡ length (now (s .entry)) ⌝ }
 {
+    s.len()
+}
+
+// Tells a caller the lists' lengths.
+fn whole(chunk: &[u8; 65536], line: &[u8; 256]) -> usize
+    ensures { λ r. ⌜ (length (now (chunk .entry)) ≡ 65536) × (length (now (line .entry)) ≡ 256) ⌝ }
+{
+    size(chunk);
+    size(line)
+}
+
+// Takes the next line of the input. A longer one than 256 bytes is cut to 256. So that the loop is seen to end, it counts down
+// from more reads than any line takes.
+pub fn next_line(chunk: &mut [u8; 65536], input: Input, line: &mut [u8; 256]) -> Line
+    ensures { λ r. ⌜ LineRead input (now (chunk .entry)) (now (line .entry)) r (now (chunk .exit)) (now (line .exit)) ⌝ }
+{
+    whole(chunk, line);
     let mut at = input.at;
     let mut count = within(input.count);
     let mut length: usize = 0;
-    let mut turns = u64::MAX;
-    while 0 < turns {
-        turns -= 1;
+    let mut reads = u64::MAX;
+    loop {
         if at < count {
             let b = chunk[at];
             at += 1;
@@ -56,19 +71,22 @@ pub fn next_line(chunk: &mut [u8; 65536], input: Input, line: &mut [u8; 256]) ->
                 length += 1;
             }
         } else {
-            let got = libc::read(STDIN_FILENO, chunk);
-            if got <= 0 {
+            if reads == 0 {
                 return line_to(length, 0 < length, 0, 0);
             }
-            count = within(io::count(got, chunk));
+            reads -= 1;
+            let got = libc::read(STDIN_FILENO, chunk);
+            if got <= 0 {
+                return line_to(length, 0 < length, 0, 0); // the end, or a read that failed
+            }
+            count = io::count(got, chunk);
             at = 0;
         }
     }
-    line_to(length, 0 < length, 0, 0)
 }
 
 fn line_to(length: usize, more: bool, at: usize, count: usize) -> Line
-    ensures { λ r. ⌜ r ≡ lineTo length more at count ⌝ }
+    ensures { λ r. ⌜ r ≡ lineTo length more (inputTo at count) ⌝ }
 {
     let input = Input { at, count };
     Line {

@@ -1,12 +1,10 @@
 -- The P lines of document 01, all of them, on the definitions that the contracts use.
 use mathlib.Core.Path.{_≡_, refl}
-use mathlib.Core.List.{List, [], _∷_}
+use mathlib.Core.List.{[], _∷_}
 use lib.IntN.{pos, negsuc}
 use Rattle.coherent_set.specs.Marker.{bytesOf, high, low, wire}
 use Rattle.group_order.proofs.Figures as F
 use Rattle.filter_hold.specs.Tbf.{timeAfter, timeOf}
-use Rattle.filter_hold.specs.declared.tbf.Time.{Time}
-use Rattle.filter_hold.specs.declared.tbf.Separation.{Separation}
 
 pub record PLines : Type 0 where
   -- number 0 late; number 5 at the timeout; own 2 and 3; first absent; an ended set without members; a heartbeat 4..6; the call list

@@ -1,8 +1,8 @@
 -- A release only lets the counts grow, so that what a turn reports, added to the counts before it, gives those after it.
-use Prim.Native.Nat.{ℕ, zero, suc, _+_, _-_, _^_, _≤_, min}
-use mathlib.Core.Path.{_≡_, refl, sym, subst, ap, _∙_}
-use mathlib.Core.Bool.{Bool, true, false, not}
-use mathlib.Core.List.{List, [], _∷_, _++_, map}
+use Prim.Native.Nat.{ℕ, zero, suc, _+_, _-_, _^_, _≤_}
+use mathlib.Core.Path.{_≡_, sym, subst, ap, _∙_}
+use mathlib.Core.Bool.{true, false, not}
+use mathlib.Core.List.{List, [], _∷_}
 use mathlib.Core.Option.{Option, some, none}
 use native.Mathlib.Omega.{arith}
 use lib.IntN.{ℤ}
@@ -14,9 +14,9 @@ use Rattle.group_order.specs.State.{State, Group, Counts, plus}
 use Rattle.group_order.specs.Sets.{membersOf, whole, lowestStale}
 use Rattle.group_order.specs.Commit.{Turn, isHead, headOf}
 use Rattle.group_order.specs.Release.{Work, View, skip, discards, discard, handOut, finishIf, finish, discardOr, discardStale, withHeld, withOut, settle, commitOne, commitAll, commit, rounds, enough, turnOf, atGroup, releaseGroup, releaseAll, workOf, backTo, released, releaseRefusal, releasedIf, release}
-use Rattle.group_order.specs.Run.{Call, releases, step, run}
+use Rattle.group_order.specs.Run.{releases, step, run}
 use Rattle.group_order.proofs.Turns.{rounds-keep, round-keeps}
-use Rattle.presentation.specs.Turn.{Row, rowsCalls, applied, since, turnTo, AsCalls}
+use Rattle.presentation.specs.Turn.{Row, rowsCalls, since, turnTo, AsCalls}
 use Rattle.presentation.specs.Turn as T
 use Rattle.presentation.proofs.TurnLaws.{run-append, applied-run, applied-quiet, counts-quiet, turn-calls}
 

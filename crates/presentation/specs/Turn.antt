@@ -1,5 +1,5 @@
 -- The subscriber turn and the order's other calls (document 01, "Operations" and "Forms").
-use Prim.{Unit, tt}
+use Prim.{Unit}
 use Prim.Native.Nat.{ℕ, _-_}
 use mathlib.Core.Path.{_≡_}
 use mathlib.Core.Bool.{Bool, true, false, _||_, cond}

@@ -143,7 +143,7 @@ fn note_readers(view: &mut [u64; 1307], rows: &[Progress])
     }
 }
 
-// What becomes of a turn, in the order of document 01.
+// What becomes of a turn.
 pub enum Verdict {
     Goes,
     Idle,
@@ -151,7 +151,7 @@ pub enum Verdict {
     Short,
 }
 
-// Nothing is changed.
+// Whether a turn goes on; else 9, nothing waits or 5, in this order. Nothing is changed.
 pub fn admits(store: &mut [u64; 6984], view: &mut [u64; 1307], room: usize) -> Verdict
     ensures { λ r. ⌜ Admitted (now (store .entry)) (now (view .entry)) room r (now (store .exit)) (now (view .exit)) ⌝ }
 {
@@ -218,6 +218,7 @@ fn apply_gap(store: &mut [u64; 6984], group: [u8; 16], writer: [u8; 16], reader:
     }
 }
 
+// A row's heartbeat and gap, where the turn goes on and the writer is known.
 pub fn apply_row(store: &mut [u64; 6984], row: Progress, go: bool)
     ensures { λ _. ⌜ Applies go row (now (store .entry)) (now (store .exit)) ⌝ }
 {
@@ -284,7 +285,7 @@ fn release_counted(
     }
 }
 
-// What the verdict says.
+// Releases where the turn goes on; else answers why it does not.
 pub fn finish(
     store: &mut [u64; 6984],
     view: &mut [u64; 1307],

@@ -1,4 +1,4 @@
--- `calls::field::field_count` meets its contract: `n` and the fields from `i` on are one more than all.
+-- `call_line::field::field_count` meets its contract: `n` and the fields from `i` on are one more than all.
 use Prim.Native.Nat.{_+_, _-_, _≤_}
 use mathlib.Core.Path.{_≡_}
 use native.Mathlib.Omega.{arith}

@@ -1,4 +1,4 @@
--- `calls::field::number_at` meets its contract.
+-- `call_line::field::number_at` meets its contract.
 use mir.Facts.{toZ-ofZ}
 use mathlib.Core.Bool.{true}
 use mathlib.Core.Path.{sym, ap, _∙_}

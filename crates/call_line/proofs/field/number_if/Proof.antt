@@ -1,4 +1,4 @@
--- `calls::field::number_if` meets its contract.
+-- `call_line::field::number_if` meets its contract.
 use mir.Facts.{toZ-ofZ}
 use mathlib.Core.Option.{some}
 use mathlib.Core.Path.{sym, ap, _∙_}

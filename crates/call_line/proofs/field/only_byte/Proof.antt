@@ -1,4 +1,4 @@
--- `calls::field::only_byte` meets its contract.
+-- `call_line::field::only_byte` meets its contract.
 use mathlib.Core.Path.{ap, _∙_}
 use Rattle.call_line.specs.Line.{only}
 use Rattle.call_line.proofs.Told.{only-one, only-other}

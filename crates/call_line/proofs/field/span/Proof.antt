@@ -1,4 +1,4 @@
--- `calls::field::span` meets its contract: field k of the line is field `left` of what stands from `at` on.
+-- `call_line::field::span` meets its contract: field k of the line is field `left` of what stands from `at` on.
 use Prim.Native.Nat.{_≤_}
 use mathlib.Core.Path.{_≡_, refl, sym, ap, _∙_}
 use mathlib.Core.List.{[]}

@@ -1,4 +1,4 @@
--- `calls::field::time_at` meets its contract.
+-- `call_line::field::time_at` meets its contract.
 use mathlib.Core.Path.{sym, ap, _∙_}
 use Rattle.decimal.specs.Read.{unsignedAs, readUnsigned}
 use Rattle.call_line.specs.Line.{time}

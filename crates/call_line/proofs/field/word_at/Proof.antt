@@ -1,4 +1,4 @@
--- `calls::field::word_at` meets its contract.
+-- `call_line::field::word_at` meets its contract.
 use Prim.Native.Nat.{_-_, _^_}
 use native.Mathlib.Omega.{arith}
 use Rattle.call_line.specs.Line.{fieldAt, time, word}

@@ -1,4 +1,4 @@
--- `calls::field::word_if` meets its contract.
+-- `call_line::field::word_if` meets its contract.
 use mathlib.Core.Path.{sym, _∙_}
 use Rattle.history.specs.Calls.{digestAs}
 use Rattle.call_line.specs.Line.{fieldAt, word, wordIf}

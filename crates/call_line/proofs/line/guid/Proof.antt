@@ -1,4 +1,4 @@
--- `calls::line::guid` meets its contract.
+-- `call_line::line::guid` meets its contract.
 use Rattle.call_line.specs.Line.{guidOf}
 use borrow.Author.Needs.{needs}
 use Rattle.call_line.proofs.line.guid.Statement.{statement}

@@ -1,4 +1,4 @@
--- `calls::parse::counted_line` meets its contract.
+-- `call_line::parse::counted_line` meets its contract.
 use mathlib.Core.Bool.{true, false}
 use Rattle.call_line.specs.Parsed.{told, pairOf, parsedAs}
 use Rattle.call_line.proofs.Lines.{counted-told}

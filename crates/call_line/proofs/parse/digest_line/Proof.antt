@@ -1,4 +1,4 @@
--- `calls::parse::digest_line` meets its contract.
+-- `call_line::parse::digest_line` meets its contract.
 use mathlib.Core.Bool.{true, false}
 use Rattle.call_line.specs.Parsed.{told, digestRowOf, parsedAs}
 use Rattle.call_line.proofs.Lines.{digest-told}

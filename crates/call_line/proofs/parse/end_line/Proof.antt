@@ -1,4 +1,4 @@
--- `calls::parse::end_line` meets its contract.
+-- `call_line::parse::end_line` meets its contract.
 use mathlib.Core.Path.{_∙_}
 use Rattle.history.specs.Records.{whatAs}
 use Rattle.call_line.proofs.Lines.{end-told}

@@ -1,4 +1,4 @@
--- `calls::parse::gap_line` meets its contract.
+-- `call_line::parse::gap_line` meets its contract.
 use mathlib.Core.Bool.{true, false}
 use mir.Syntax.{w64}
 use mir.ValLaws.{toZ-ofZ}

@@ -1,4 +1,4 @@
--- `calls::parse::parse` meets its contract: the letter says which line the definition reads.
+-- `call_line::parse::parse` meets its contract: the letter says which line the definition reads.
 use mathlib.Core.Path.{_∙_}
 use Rattle.call_line.specs.Line.{lineBy}
 use Rattle.call_line.specs.Parsed.{parsedAs}

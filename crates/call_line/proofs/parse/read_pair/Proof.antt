@@ -1,4 +1,4 @@
--- `calls::parse::read_pair` meets its contract.
+-- `call_line::parse::read_pair` meets its contract.
 use Rattle.call_line.specs.Parsed.{pairOf}
 use Rattle.call_line.proofs.Lines.{pair-told}
 use borrow.Author.Needs.{needs}

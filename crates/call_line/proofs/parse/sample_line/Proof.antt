@@ -1,4 +1,4 @@
--- `calls::parse::sample_line` meets its contract.
+-- `call_line::parse::sample_line` meets its contract.
 use mathlib.Core.Path.{_∙_}
 use Rattle.history.specs.Records.{whatAs}
 use Rattle.call_line.proofs.Lines.{sample-told}

@@ -1,4 +1,4 @@
--- `calls::parse::start_line` meets its contract.
+-- `call_line::parse::start_line` meets its contract.
 use mathlib.Core.Bool.{true, false}
 use Rattle.call_line.specs.Parsed.{told, parsedAs}
 use Rattle.call_line.proofs.Lines.{start-told}

@@ -27,7 +27,7 @@ unfolding runCall
 returns c =
     let x = c .before .before .before .gap .result in
     let r = c .before .before .gap2 in
-    ran-as (λ y. gaps y) (c .before .before .before .gap .ensures) (ran-history (gaps (gapAs x)) (λ s. O.gap s (gapAs x)) (λ a. doneText a) (λ c. refl) (r .ensures .0) (c .say-accepted .ensures) (omega (arith, done-long (toldAs (r .result)), c .before .before .before .before .before .whole .ensures)))
+    ran-as (λ y. gaps y) (c .before .before .before .gap .ensures) (ran-history (gaps (gapAs x)) (λ s. O.gap s (gapAs x)) (λ a. doneText a) (λ c. refl) (λ c s v s′ k. (k, refl)) (r .ensures .0) (r .ensures .1) (c .say-accepted .ensures) (omega (arith, done-long (toldAs (r .result)), c .before .before .before .before .before .whole .ensures)))
 
 pub run-gap-spec : {M : Type 1} → statement M
 run-gap-spec =

@@ -27,7 +27,7 @@ unfolding runCall
 returns c =
     let x = c .before .before .before .heartbeat .result in
     let r = c .before .before .heartbeat2 in
-    ran-as (λ y. heartbeats y) (c .before .before .before .heartbeat .ensures) (ran-history (heartbeats (heartbeatAs x)) (λ s. O.heartbeat s (heartbeatAs x)) (λ a. doneText a) (λ c. refl) (r .ensures .0) (c .say-accepted .ensures) (omega (arith, done-long (toldAs (r .result)), c .before .before .before .before .before .whole .ensures)))
+    ran-as (λ y. heartbeats y) (c .before .before .before .heartbeat .ensures) (ran-history (heartbeats (heartbeatAs x)) (λ s. O.heartbeat s (heartbeatAs x)) (λ a. doneText a) (λ c. refl) (λ c s v s′ k. (k, refl)) (r .ensures .0) (r .ensures .1) (c .say-accepted .ensures) (omega (arith, done-long (toldAs (r .result)), c .before .before .before .before .before .whole .ensures)))
 
 pub run-heartbeat-spec : {M : Type 1} → statement M
 run-heartbeat-spec =

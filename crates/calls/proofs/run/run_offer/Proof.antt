@@ -27,7 +27,7 @@ unfolding runCall
 returns c =
     let x = c .before .before .before .offer .result in
     let r = c .before .before .offer2 in
-    ran-as (λ y. offers y) (c .before .before .before .offer .ensures) (ran-history (offers (offerAs x)) (λ s. O.offer s (offerAs x)) (λ a. offerText a) (λ c. refl) (r .ensures .0) (c .say-offered .ensures) (omega (arith, offer-long (offeredAs (r .result)), c .before .before .before .before .before .whole .ensures)))
+    ran-as (λ y. offers y) (c .before .before .before .offer .ensures) (ran-history (offers (offerAs x)) (λ s. O.offer s (offerAs x)) (λ a. offerText a) (λ c. refl) (λ c s v s′ k. (k, refl)) (r .ensures .0) (r .ensures .1) (c .say-offered .ensures) (omega (arith, offer-long (offeredAs (r .result)), c .before .before .before .before .before .whole .ensures)))
 
 pub run-offer-spec : {M : Type 1} → statement M
 run-offer-spec =

@@ -1,7 +1,7 @@
 -- `calls::run::run_release` meets its contract.
 use Prim.Native.Nat.{ℕ, _≤_}
 use mathlib.Core.List.{List}
-use mathlib.Core.Path.{_≡_, refl, sym, ap, _∙_}
+use mathlib.Core.Path.{_≡_, refl, sym, ap, _∙_, subst}
 use native.Mathlib.Omega.{arith}
 use borrow.Author.Needs.{needs}
 use lib.ListN.{length, take, replicate}
@@ -9,7 +9,7 @@ use lib.Seq.{length-take-le}
 use Rattle.coherent_set.specs.Answer.{Answer, refused, answered}
 use Rattle.group_order.specs.State.{State}
 use Rattle.history.specs.Store.{stateOf}
-use Rattle.history.specs.Calls.{releasedAs, releaseNoted}
+use Rattle.history.specs.Calls.{releasedAs, releaseNoted, Kept}
 use Rattle.calls.proofs.Releasing.{wrote-within, ran-released, ran-refused}
 use Rattle.calls.proofs.run.run_release.Statement.{statement}
 use Rattle.calls.proofs.run.run_release.Tie as tie
@@ -91,7 +91,7 @@ returns-2 c =
     let t = stateOf (w .last .0) in
     let p = w .last .1 .1 .1 .0 in
     let said : _≡_ {A = Answer ℕ × State ℕ × List ℕ} (refused 9, t, p) (releaseNoted (a .view .now) (stateOf (a .store .now)) (a .time) (replicate 256 0)) = ap (λ x. (releasedAs x, t, p)) (sym (c .before .before .enum-told .given .1)) ∙ w .ensures .0 in
-    ran-refused (replicate 256 0) refl said (c .say-refused .ensures) (c .before .before .before .before .before .before .before .before .before .whole .ensures)
+    ran-refused (replicate 256 0) refl said (subst (λ x. Kept (releasedAs x) (a .store .now) (w .last .0)) (c .before .before .enum-told .given .1) (w .ensures .1)) (c .say-refused .ensures) (c .before .before .before .before .before .before .before .before .before .whole .ensures)
 
 returns-3 : tie.Need-returns-3
 unfolding releasedAs
@@ -101,7 +101,7 @@ returns-3 c =
     let t = stateOf (w .last .0) in
     let p = w .last .1 .1 .1 .0 in
     let said : _≡_ {A = Answer ℕ × State ℕ × List ℕ} (refused 5, t, p) (releaseNoted (a .view .now) (stateOf (a .store .now)) (a .time) (replicate 256 0)) = ap (λ x. (releasedAs x, t, p)) (sym (c .before .before .enum-told2 .given .1)) ∙ w .ensures .0 in
-    ran-refused (replicate 256 0) refl said (c .say-refused2 .ensures) (c .before .before .before .before .before .before .before .before .before .whole .ensures)
+    ran-refused (replicate 256 0) refl said (subst (λ x. Kept (releasedAs x) (a .store .now) (w .last .0)) (c .before .before .enum-told2 .given .1) (w .ensures .1)) (c .say-refused2 .ensures) (c .before .before .before .before .before .before .before .before .before .whole .ensures)
 
 pub run-release-spec : {M : Type 1} → statement M
 run-release-spec =

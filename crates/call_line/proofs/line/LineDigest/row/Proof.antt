@@ -1,4 +1,4 @@
--- `calls::line::LineDigest::row` meets its contract.
+-- `call_line::line::LineDigest::row` meets its contract.
 use Rattle.group_view.specs.View.{digestRowAs}
 use Rattle.call_line.specs.Parsed.{digestRowOf}
 use borrow.Author.Needs.{needs}

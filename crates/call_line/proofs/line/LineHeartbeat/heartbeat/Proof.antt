@@ -1,4 +1,4 @@
--- `calls::line::LineHeartbeat::heartbeat` meets its contract.
+-- `call_line::line::LineHeartbeat::heartbeat` meets its contract.
 use mir.Syntax.{w64}
 use mir.ValLaws.{toZ-ofZ}
 use Rattle.history.specs.Calls.{heartbeatAs}

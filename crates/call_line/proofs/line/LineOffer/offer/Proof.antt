@@ -1,4 +1,4 @@
--- `calls::line::LineOffer::offer` meets its contract.
+-- `call_line::line::LineOffer::offer` meets its contract.
 use mir.Syntax.{w64}
 use mir.ValLaws.{toZ-ofZ}
 use Rattle.history.specs.Calls.{offerAs}

@@ -1,4 +1,4 @@
--- `calls::line::LinePair::row` meets its contract.
+-- `call_line::line::LinePair::row` meets its contract.
 use Rattle.group_view.specs.View.{pairAs}
 use Rattle.call_line.specs.Parsed.{pairOf}
 use borrow.Author.Needs.{needs}
