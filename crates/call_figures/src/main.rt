@@ -1,7 +1,8 @@
 // For tests: document 01's call list, with a second line after each answer: `held`, the waiting figures of readers 0 to 7, and
 // `waits`, or `idle` where nothing waits.
 use calls::run::run_line;
-use decimal::Put;
+use decimal::put_bytes;
+use decimal::put_unsigned;
 use group_view::view::clear;
 use history::order::GroupOrder;
 use libc::STDOUT_FILENO;
@@ -15,36 +16,23 @@ type Line = [u8; 256];
 // Room for every answer, 3929 bytes, and its figures.
 type Out = [u8; 4096];
 
-// Puts text at `at`, and answers where the next byte goes. Every answer has room.
-fn put(out: &mut Out, at: usize, text: &[u8]) -> usize {
-    let placed = decimal::put_bytes(out, at, text);
-    match placed {
-        Put::At(next) => next,
-        Put::NoRoom => at,
-    }
-}
-
 fn put_figure(out: &mut Out, at: usize, n: usize) -> usize {
-    let at = put(out, at, b" ");
-    let placed = decimal::put_unsigned(out, at, n as u64);
-    match placed {
-        Put::At(next) => next,
-        Put::NoRoom => at,
-    }
+    let at = put_bytes(out, at, b" ");
+    put_unsigned(out, at, n as u64)
 }
 
 // The figures, from `at` on.
 fn put_figures(store: &[u64; 6984], out: &mut Out, at: usize) -> usize {
-    let mut at = put(out, at, b"\nheld");
+    let mut at = put_bytes(out, at, b"\nheld");
     let mut reader: u8 = 0;
     while reader < 8 {
         at = put_figure(out, at, GroupOrder::held_for(store, reader));
         reader += 1;
     }
     if GroupOrder::is_empty(store) {
-        return put(out, at, b" idle\n");
+        return put_bytes(out, at, b" idle\n");
     }
-    put(out, at, b" waits\n")
+    put_bytes(out, at, b" waits\n")
 }
 
 // Prints the first bytes of an answer, where it has so many.

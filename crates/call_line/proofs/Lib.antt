@@ -1,4 +1,3 @@
-pub mod Fields
 pub mod Told
 pub mod Lines
 pub mod Longest

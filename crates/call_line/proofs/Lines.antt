@@ -11,12 +11,12 @@ use Rattle.group_order.specs.Entry.{What, sample, setEnd}
 use Rattle.group_order.specs.Sets.{Pair}
 use Rattle.history.specs.Records.{optionalAs}
 use Rattle.history.specs.Calls.{digestAs}
-use Rattle.call_line.specs.Line.{starts, counts, digests, offers, heartbeats, gaps, releases, fieldsOf, guidOf, byte, guid, word, time, number, numberIf, wordIf, pairIn, offerLine, startLine, countedLine, digestLine, sampleLine, endLine, heartbeatLine, gapLine, releaseLine, fieldAt, only, lineBy, lineOf}
-use Rattle.call_line.specs.Parsed.{told}
-use Rattle.call_line.specs.declared.field.Byte.{Byte}
-use Rattle.call_line.specs.declared.field.Word.{Word}
-use Rattle.call_line.specs.declared.field.Time.{Time}
-use Rattle.call_line.specs.declared.field.Number.{Number}
+use Rattle.fields.specs.Fields.{fieldsOf, byte, word, long, number, fieldAt, only, told}
+use Rattle.call_line.specs.Line.{starts, counts, digests, offers, heartbeats, gaps, releases, guidOf, guid, numberIf, wordIf, pairIn, offerLine, startLine, countedLine, digestLine, sampleLine, endLine, heartbeatLine, gapLine, releaseLine, lineBy, lineOf}
+use Rattle.fields.specs.declared.Byte.{Byte}
+use Rattle.fields.specs.declared.Word.{Word}
+use Rattle.fields.specs.declared.Long.{Long}
+use Rattle.fields.specs.declared.Number.{Number}
 use Rattle.call_line.specs.declared.field.NumberIf.{NumberIf}
 use Rattle.call_line.specs.declared.field.WordIf.{WordIf}
 use Rattle.call_line.proofs.Told.{told-first, told-more, line-told}
@@ -29,14 +29,14 @@ pair-told l g w r a b c = rw (← a, ← b, ← c) (simp (told-first, told-more)
 
 -- `S` and `E`, from what an offer of their fields spells
 
-pub sample-told : (l : List ℕ) (i : Word) (t : Time)
-    → told (i .ok) (i .value) ≡ word 7 l → told (t .ok) (t .value) ≡ time 8 l
+pub sample-told : (l : List ℕ) (i : Word) (t : Long)
+    → told (i .ok) (i .value) ≡ word 7 l → told (t .ok) (t .value) ≡ long 8 l
     → offerLine 9 l (told (i .ok) (sample (i .value))) (told (t .ok) (t .value)) ≡ sampleLine l
 unfolding sampleLine
 sample-told l i t e1 e2 = rw (← e1, ← e2) (simp told-first)
 
-pub end-told : (l : List ℕ) (f o : NumberIf) (t : Time)
-    → told (f .ok) (optionalAs (f .value)) ≡ numberIf 7 l → told (o .ok) (optionalAs (o .value)) ≡ numberIf 8 l → told (t .ok) (t .value) ≡ time 9 l
+pub end-told : (l : List ℕ) (f o : NumberIf) (t : Long)
+    → told (f .ok) (optionalAs (f .value)) ≡ numberIf 7 l → told (o .ok) (optionalAs (o .value)) ≡ numberIf 8 l → told (t .ok) (t .value) ≡ long 9 l
     → offerLine 10 l (told (f .ok && o .ok) (setEnd (optionalAs (f .value)) (optionalAs (o .value)))) (told (t .ok) (t .value)) ≡ endLine l
 unfolding endLine
 end-told l f o t e1 e2 e3 = rw (← e1, ← e2, ← e3) (simp (told-first, told-more))
@@ -56,11 +56,11 @@ module _ (l : List ℕ) (x : ℕ) (e : x ≡ only (fieldAt 0 l)) where
 -- the other lines
 
 module _ (l : List ℕ) (m : ℕ) (c : m ≡ length (fieldsOf l)) (b : Bool) where
-  pub start-told : (t : Time) → told (t .ok) (t .value) ≡ time 1 l → (t .ok && eqb m 2) ≡ b → told b (starts (t .value)) ≡ startLine l
+  pub start-told : (t : Long) → told (t .ok) (t .value) ≡ long 1 l → (t .ok && eqb m 2) ≡ b → told b (starts (t .value)) ≡ startLine l
   unfolding startLine
   start-told t e h = rw (← e) (simp told-first (line-told 2 l _ _ m c b h))
 
-  pub release-told : (t : Time) → told (t .ok) (t .value) ≡ time 1 l → (t .ok && eqb m 2) ≡ b → told b (releases (t .value)) ≡ releaseLine l
+  pub release-told : (t : Long) → told (t .ok) (t .value) ≡ long 1 l → (t .ok && eqb m 2) ≡ b → told b (releases (t .value)) ≡ releaseLine l
   unfolding releaseLine
   release-told t e h = rw (← e) (simp told-first (line-told 2 l _ _ m c b h))
 

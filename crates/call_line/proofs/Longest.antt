@@ -12,8 +12,9 @@ use lib.Seq.{take-all, length-take-le}
 use Rattle.decimal.specs.Read.{atMost}
 use Rattle.decimal.proofs.Lengths.{unsigned-long, signed-long}
 use Rattle.group_order.proofs.Lists.{none-some}
-use Rattle.call_line.specs.Line.{lengthen, fieldsOf, fieldAt, only, _⊛_, upTo, optional, guidOf, byte, guid, word, time, number, numberIf, wordIf, sized, pairIn, offerLine, startLine, countedLine, digestLine, sampleLine, endLine, heartbeatLine, gapLine, releaseLine, lineBy, lineOf}
-use Rattle.call_line.proofs.Fields.{some-field}
+use Rattle.fields.specs.Fields.{lengthen, fieldsOf, fieldAt, only, upTo, byte, word, long, number}
+use Rattle.call_line.specs.Line.{_⊛_, optional, guidOf, guid, numberIf, wordIf, sized, pairIn, offerLine, startLine, countedLine, digestLine, sampleLine, endLine, heartbeatLine, gapLine, releaseLine, lineBy, lineOf}
+use Rattle.fields.proofs.Fields.{some-field}
 use Rattle.call_line.proofs.Told.{neither}
 
 -- ---- a line's length, from its fields'
@@ -77,9 +78,9 @@ optional-short : {A : Type 0} (r : Option A) (s : List ℕ) → Short (length s)
 optional-short r s p = record { bad = λ h. dash-long r s (omega arith) (p .bad h) }
 
 module _ (l : List ℕ) where
-  time-short : (k : ℕ) → Short (length (fieldAt k l)) 21 (time k l)
-  unfolding time
-  time-short k = record { bad = λ h. unsigned-long (fieldAt k l) (omega arith) }
+  long-short : (k : ℕ) → Short (length (fieldAt k l)) 21 (long k l)
+  unfolding long
+  long-short k = record { bad = λ h. unsigned-long (fieldAt k l) (omega arith) }
 
   up-to-short : (m k : ℕ) → Short (length (fieldAt k l)) 21 (upTo m (fieldAt k l))
   unfolding upTo atMost
@@ -123,7 +124,7 @@ module _ (l : List ℕ) where
 
     start-long : startLine l ≡ none
     unfolding startLine sum fieldAt
-    start-long = sized-long 2 (good _ & time-short 1) (λ e. omega arith)
+    start-long = sized-long 2 (good _ & long-short 1) (λ e. omega arith)
 
     counted-long : countedLine l ≡ none
     unfolding countedLine pairIn sum fieldAt
@@ -138,7 +139,7 @@ module _ (l : List ℕ) where
     sample-long =
         sized-long 9
         (good _ & guid-short 1 & guid-short 2 & byte-short 3 & number-short 4 & number-if-short 5 & word-short 6
-        & (good _ & word-short 7) & time-short 8)
+        & (good _ & word-short 7) & long-short 8)
         (λ e. omega arith)
 
     end-long : endLine l ≡ none
@@ -146,7 +147,7 @@ module _ (l : List ℕ) where
     end-long =
         sized-long 10
         (good _ & guid-short 1 & guid-short 2 & byte-short 3 & number-short 4 & number-if-short 5 & word-short 6
-        & (good _ & number-if-short 7 & number-if-short 8) & time-short 9)
+        & (good _ & number-if-short 7 & number-if-short 8) & long-short 9)
         (λ e. omega arith)
 
     heartbeat-long : heartbeatLine l ≡ none
@@ -162,7 +163,7 @@ module _ (l : List ℕ) where
 
     release-long : releaseLine l ≡ none
     unfolding releaseLine sum fieldAt
-    release-long = sized-long 2 (good _ & time-short 1) (λ e. omega arith)
+    release-long = sized-long 2 (good _ & long-short 1) (λ e. omega arith)
 
     letter-long : (c : ℕ) → lineBy c l ≡ none
     unfolding lineBy

@@ -6,7 +6,7 @@ use mathlib.Core.Option.{Option, none, some}
 use lib.Dec.{eqb}
 use lib.IntN.{ℤ}
 use lib.ListN.{length, getD, replicate}
-use Rattle.decimal.specs.Read.{atMost, readUnsigned, readSigned}
+use Rattle.fields.specs.Fields.{fieldsOf, fieldAt, only, byte, word, long, number}
 use Rattle.group_order.specs.Guid.{Guid}
 use Rattle.group_order.specs.Entry.{What, sample, setEnd}
 use Rattle.group_order.specs.Offer.{Offer, Heartbeat, Gap}
@@ -23,28 +23,6 @@ pub data Line : Type 0 where
   gaps : Gap → Line
   releases : ℕ → Line
 
--- ---- the fields of a line
-
--- one byte more in front of the first field
-unfoldable pub lengthen : ℕ → List (List ℕ) → List (List ℕ)
-lengthen b [] = (b ∷ []) ∷ []
-lengthen b (f ∷ fs) = (b ∷ f) ∷ fs
-
--- split at each space, 32
-unfoldable pub fieldsOf : List ℕ → List (List ℕ)
-fieldsOf [] = [] ∷ []
-fieldsOf (b ∷ s) = cond (eqb b 32) ([] ∷ fieldsOf s) (lengthen b (fieldsOf s))
-
--- field k, the letter being field 0; empty where there are fewer
-unfoldable pub fieldAt : ℕ → List ℕ → List ℕ
-fieldAt k l = getD (fieldsOf l) k []
-
--- the byte of a field of one byte, 0 of any other
-unfoldable pub only : List ℕ → ℕ
-only [] = 0
-only (b ∷ []) = b
-only (b ∷ c ∷ s) = 0
-
 -- ---- what a field spells; none where it is bad
 
 infixl 40 _⊛_
@@ -54,9 +32,6 @@ none ⊛ a = none
 (some f) ⊛ none = none
 (some f) ⊛ (some a) = some (f a)
 
-unfoldable pub upTo : ℕ → List ℕ → Option ℕ
-upTo m s = atMost m (readUnsigned s)
-
 -- `-`, 45, is absent
 unfoldable pub optional : {A : Type 0} → Option A → List ℕ → Option (Option A)
 optional r s = cond (eqb (only s) 45) (some none) (some (λ a. some a) ⊛ r)
@@ -65,20 +40,8 @@ optional r s = cond (eqb (only s) 45) (some none) (some (λ a. some a) ⊛ r)
 unfoldable pub guidOf : ℕ → Guid
 guidOf k = replicate 15 0 ++ (k ∷ [])
 
-unfoldable pub byte : ℕ → List ℕ → Option ℕ
-byte k l = upTo (2 ^ 8 - 1) (fieldAt k l)
-
 unfoldable pub guid : ℕ → List ℕ → Option Guid
 guid k l = some (λ n. guidOf n) ⊛ byte k l
-
-unfoldable pub word : ℕ → List ℕ → Option ℕ
-word k l = upTo (2 ^ 32 - 1) (fieldAt k l)
-
-unfoldable pub time : ℕ → List ℕ → Option ℕ
-time k l = readUnsigned (fieldAt k l)
-
-unfoldable pub number : ℕ → List ℕ → Option ℤ
-number k l = readSigned (fieldAt k l)
 
 unfoldable pub numberIf : ℕ → List ℕ → Option (Option ℤ)
 numberIf k l = optional (number k l) (fieldAt k l)
@@ -105,7 +68,7 @@ offerLine n l what t =
 
 -- `T` timeout
 unfoldable pub startLine : List ℕ → Option Line
-startLine l = sized 2 l (some (λ t. starts t) ⊛ time 1 l)
+startLine l = sized 2 l (some (λ t. starts t) ⊛ long 1 l)
 
 -- `V` group writer reader
 unfoldable pub countedLine : List ℕ → Option Line
@@ -117,11 +80,11 @@ digestLine l = sized 3 l (some (λ g d. digests (record { group = g; digest = d 
 
 -- `S` group writer reader number set digest item time
 unfoldable pub sampleLine : List ℕ → Option Line
-sampleLine l = offerLine 9 l (some (λ i. sample i) ⊛ word 7 l) (time 8 l)
+sampleLine l = offerLine 9 l (some (λ i. sample i) ⊛ word 7 l) (long 8 l)
 
 -- `E` group writer reader number set digest first own time
 unfoldable pub endLine : List ℕ → Option Line
-endLine l = offerLine 10 l (some (λ f o. setEnd f o) ⊛ numberIf 7 l ⊛ numberIf 8 l) (time 9 l)
+endLine l = offerLine 10 l (some (λ f o. setEnd f o) ⊛ numberIf 7 l ⊛ numberIf 8 l) (long 9 l)
 
 -- `H` group writer first last current digest secure
 unfoldable pub heartbeatLine : List ℕ → Option Line
@@ -138,7 +101,7 @@ gapLine l =
 
 -- `R` time
 unfoldable pub releaseLine : List ℕ → Option Line
-releaseLine l = sized 2 l (some (λ t. releases t) ⊛ time 1 l)
+releaseLine l = sized 2 l (some (λ t. releases t) ⊛ long 1 l)
 
 -- by the letter in ASCII
 unfoldable pub lineBy : ℕ → List ℕ → Option Line

@@ -1,6 +1,5 @@
 -- What a parsed line stands for.
 use Prim.Native.Nat.{ℕ}
-use mathlib.Core.Bool.{Bool, cond}
 use mathlib.Core.Option.{Option, none, some}
 use Rattle.group_order.specs.Offer as O
 use Rattle.group_order.specs.Sets.{Pair}
@@ -15,10 +14,6 @@ use Rattle.call_line.specs.declared.line.LineHeartbeat.{LineHeartbeat}
 use Rattle.call_line.specs.declared.line.LineGap.{LineGap}
 use Rattle.call_line.specs.declared.parse.Parsed.{Parsed}
 use Rattle.call_line.specs.declared.parse.Parsed.the-variants as P
-
--- what was read of fields, with whether they are good
-unfoldable pub told : {A : Type 0} → Bool → A → Option A
-told ok v = cond ok (some v) none
 
 unfoldable pub pairOf : LinePair → Pair
 pairOf p = record { group = guidOf (p .group); writer = guidOf (p .writer); reader = p .reader }

@@ -1,4 +1,4 @@
 // A line of document 01's call list, and what it spells.
-mod field;
+pub mod field;
 pub mod line;
 pub mod parse;

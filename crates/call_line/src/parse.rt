@@ -1,24 +1,25 @@
 // A line of the call list, read.
-use crate::field::Time;
-use crate::field::byte_at;
-use crate::field::field_count;
-use crate::field::number_at;
 use crate::field::number_if;
-use crate::field::only_byte;
-use crate::field::time_at;
-use crate::field::word_at;
 use crate::field::word_if;
 use crate::line::LineDigest;
 use crate::line::LineGap;
 use crate::line::LineHeartbeat;
 use crate::line::LineOffer;
 use crate::line::LinePair;
+use fields::Long;
+use fields::byte_at;
+use fields::field_count;
+use fields::long_at;
+use fields::number_at;
+use fields::only_byte;
+use fields::word_at;
 use history::entry::SetEnd;
 use history::entry::What;
 ghost use mathlib.Core.Path.{_≡_};
 ghost use Rattle.history.specs.Records.{whatAs};
 ghost use Rattle.call_line.specs.Line.{pairIn, offerLine, startLine, countedLine, digestLine, sampleLine, endLine, heartbeatLine, gapLine, releaseLine, lineOf};
-ghost use Rattle.call_line.specs.Parsed.{told, pairOf, parsedAs};
+ghost use Rattle.fields.specs.Fields.{told};
+ghost use Rattle.call_line.specs.Parsed.{pairOf, parsedAs};
 
 pub enum Parsed {
     Timeout(u64),
@@ -62,7 +63,7 @@ pub fn parse(line: &[u8]) -> Parsed
 fn start_line(line: &[u8]) -> Parsed
     ensures { λ r. ⌜ parsedAs r ≡ startLine (now (line .entry)) ⌝ }
 {
-    let time = time_at(line, 1);
+    let time = long_at(line, 1);
     if time.ok & (field_count(line) == 2) {
         return Parsed::Timeout(time.value);
     }
@@ -72,7 +73,7 @@ fn start_line(line: &[u8]) -> Parsed
 fn release_line(line: &[u8]) -> Parsed
     ensures { λ r. ⌜ parsedAs r ≡ releaseLine (now (line .entry)) ⌝ }
 {
-    let time = time_at(line, 1);
+    let time = long_at(line, 1);
     if time.ok & (field_count(line) == 2) {
         return Parsed::Release(time.value);
     }
@@ -131,7 +132,7 @@ fn sample_line(line: &[u8]) -> Parsed
         ok: item.ok,
         value: What::Sample(item.value),
     };
-    let time = time_at(line, 8);
+    let time = long_at(line, 8);
     offer_line(line, 9, what, time)
 }
 
@@ -150,12 +151,12 @@ fn end_line(line: &[u8]) -> Parsed
         ok: first.ok & own.ok,
         value: What::End(end),
     };
-    let time = time_at(line, 9);
+    let time = long_at(line, 9);
     offer_line(line, 10, what, time)
 }
 
 // group writer reader number set digest, what it holds, time
-fn offer_line(line: &[u8], fields: usize, what: ReadWhat, time: Time) -> Parsed
+fn offer_line(line: &[u8], fields: usize, what: ReadWhat, time: Long) -> Parsed
     ensures { λ r. ⌜ parsedAs r ≡ offerLine fields (now (line .entry)) (told (what .ok) (whatAs (what .value))) (told (time .ok) (time .value)) ⌝ }
 {
     let group = byte_at(line, 1);

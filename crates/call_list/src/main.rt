@@ -1,6 +1,6 @@
 // Document 01's call list: reads calls from standard input, one a line, and prints each answer on a line.
 use calls::run::run_line;
-use decimal::Put;
+use decimal::put_bytes;
 use group_view::view::clear;
 use history::order::GroupOrder;
 use libc::STDOUT_FILENO;
@@ -14,13 +14,8 @@ type Line = [u8; 256];
 // Room for every answer, 3929 bytes, and a newline.
 type Out = [u8; 4096];
 
-// Puts text at `at`, and answers where the next byte goes. Every answer has room.
-fn put(out: &mut Out, at: usize, text: &[u8]) -> usize {
-    let placed = decimal::put_bytes(out, at, text);
-    match placed {
-        Put::At(next) => next,
-        Put::NoRoom => at,
-    }
+fn end_line(out: &mut Out, at: usize) -> usize {
+    put_bytes(out, at, b"\n")
 }
 
 // Prints the first bytes of an answer, where it has so many.
@@ -38,7 +33,7 @@ fn answer(store: &mut [u64; 6984], view: &mut [u64; 1307], line: &Line, length: 
     let line: &[u8] = line;
     let mut said = [0u8; 4096];
     let n = run_line(store, view, &line[0..length], &mut said);
-    let end = put(&mut said, n, b"\n");
+    let end = end_line(&mut said, n);
     print(&said, end);
 }
 

@@ -10,7 +10,7 @@ use borrow.Author.Tests.{lt-ltb}
 use lib.Dec.{ltb}
 use lib.ListN.{length, length-append}
 use Rattle.coherent_set.specs.Answer.{Answer, refused, answered}
-use Rattle.decimal.specs.Print.{oneOr, digitsIn, digitsOf, putAt}
+use Rattle.decimal.specs.Print.{oneOr, digitsIn, digitsOf, put}
 use Rattle.group_order.specs.State.{State, fresh}
 use Rattle.group_order.specs.Offer.{Fate, isStored, isJoined, isLate}
 use Rattle.group_view.specs.View.{pairAs, digestRowAs, Cleared, Noted, NotedDigest}
@@ -78,13 +78,11 @@ pub ran-said : {l : Option Line} {r : ℕ} {s store view out store′ view′ ou
     → ((c : Calls) → Stands c store view → s ≡ runIf c l .1)
     → Ran l r store view out store′ view′ out′
 ran-said {l} {r} {s} {store} {view} {out} x h f k g =
-    let y = x .is (omega arith) in
     record {
       state = f;
       leaves = k;
       fits = λ c t. omega (arith, ap length (g c t));
-      count = λ c t. omega (arith, y .0, ap length (g c t));
-      text = λ c t. y .1 ∙ ap (λ (k : List ℕ). putAt out 0 k) (g c t);
+      text = λ c t. x .is ∙ ap (λ (k : List ℕ). put out 0 k) (g c t);
     }
 
 pub ran-bad : {r : ℕ} {store view out out′ : List ℕ} → Said 0 bad r out out′ → length out ≡ 4096 → Ran none r store view out store view out′

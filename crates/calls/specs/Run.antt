@@ -13,7 +13,8 @@ use Rattle.group_order.specs.Offer.{Fate, isStored, isJoined, isLate, offer, he
 use Rattle.group_order.specs.Sets.{Pair}
 use Rattle.group_order.specs.Commit.{DigestRow}
 use Rattle.group_order.specs.Release.{View, Outcome, release}
-use Rattle.call_line.specs.Line.{Line, starts, counts, digests, offers, heartbeats, gaps, releases, lengthen, lineOf}
+use Rattle.fields.specs.Fields.{lengthen}
+use Rattle.call_line.specs.Line.{Line, starts, counts, digests, offers, heartbeats, gaps, releases, lineOf}
 
 -- the history, and the rows for its next releases
 pub record Calls : Type 0 where

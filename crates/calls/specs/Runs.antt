@@ -1,12 +1,12 @@
 -- What the lent words stand for between lines, and a line or a whole text run on them.
 use Prim.{Unit}
-use Prim.Native.Nat.{ℕ, _+_, _-_, _≤_, min}
+use Prim.Native.Nat.{ℕ, _≤_}
 use mathlib.Core.Path.{_≡_}
 use mathlib.Core.Bool.{Bool, true, false}
 use mathlib.Core.List.{List, [], _∷_, _++_}
 use mathlib.Core.Option.{Option, none, some}
-use lib.ListN.{length, take, drop}
-use Rattle.decimal.specs.Print.{putAt}
+use lib.ListN.{length}
+use Rattle.decimal.specs.Print.{put}
 use Rattle.group_order.specs.Offer.{offer, heartbeat, gap}
 use Rattle.group_order.specs.Release.{malformed, release}
 use Rattle.history.specs.Store.{stateOf}
@@ -37,24 +37,18 @@ Leaves c (some (heartbeats h)) s v s′ v′ = Kept (heartbeat (c .history) h .0
 Leaves c (some (gaps g)) s v s′ v′ = Kept (gap (c .history) g .0) s s′ × (v′ ≡ v)
 Leaves c (some (releases now)) s v s′ v′ = Kept (release (c .history) (rowsOf c) now 256 .0) s s′ × (v′ ≡ v)
 
--- the words stand for the calls after the line, those that it leaves unchanged; what it prints is put at the front of out, and r is
--- its length
+-- the words stand for the calls after the line, those that it leaves unchanged; what it prints fits, and is put at the front of out
 pub record Ran (l : Option Line) (r : ℕ) (store view out store′ view′ out′ : List ℕ) : Type 0 where
   pub state : (c : Calls) → Stands c store view → Stands (runIf c l .0) store′ view′
   pub leaves : (c : Calls) → Stands c store view → Leaves c l store view store′ view′
   pub fits : (c : Calls) → Stands c store view → length (runIf c l .1) ≤ length out
-  pub count : (c : Calls) → Stands c store view → r ≡ length (runIf c l .1)
-  pub text : (c : Calls) → Stands c store view → out′ ≡ putAt out 0 (runIf c l .1)
-
--- text put into out from `at` on, as far as out has room: the place behind it, and out
-unfoldable pub putOn : List ℕ → ℕ → List ℕ → ℕ × List ℕ
-putOn out at s = (at + min (length s) (length out - at), take at out ++ (take (length out - at) s ++ drop (at + length s) out))
+  pub text : (c : Calls) → Stands c store view → (r, out′) ≡ put out 0 (runIf c l .1)
 
 -- a line run, its answer and a newline put into out from `at` on
 pub record RanOn (line : List ℕ) (at r : ℕ) (store view out store′ view′ out′ : List ℕ) : Type 0 where
   pub state : (c : Calls) → Stands c store view → Stands (runLine c line .0) store′ view′
-  pub text : (c : Calls) → Stands c store view → (r, out′) ≡ putOn out at (runLine c line .1 ++ (10 ∷ []))
+  pub text : (c : Calls) → Stands c store view → (r, out′) ≡ put out at (runLine c line .1 ++ (10 ∷ []))
 
 -- the answers of a text put at the front of out, as far as out has room: how many bytes of them are there, and out
 unfoldable pub ranText : List ℕ → List ℕ → ℕ × List ℕ
-ranText s out = putOn out 0 (runText s)
+ranText s out = put out 0 (runText s)

@@ -1,13 +1,12 @@
 -- Bytes put into a lent list, and the text of a release's answer by the places it wrote.
-use Prim.Native.Nat.{ℕ, _+_, _/_, _%_, _^_, _≤_}
+use Prim.Native.Nat.{ℕ, _/_, _%_, _^_}
 use mathlib.Core.Path.{_≡_}
 use mathlib.Core.List.{List, [], _∷_, _++_}
-use lib.ListN.{length}
-use Rattle.decimal.specs.Print.{digitsOf, putAt}
+use Rattle.decimal.specs.Print.{digitsOf, put}
 
--- where out has room for s from `at` on, s is put there, and r is the place behind it
+-- s is put into out from `at` on, and r is the place behind it
 pub record Said (at : ℕ) (s : List ℕ) (r : ℕ) (out out′ : List ℕ) : Type 0 where
-  pub is : at + length s ≤ length out → (r ≡ at + length s) × (out′ ≡ putAt out at s)
+  pub is : (r, out′) ≡ put out at s
 
 -- a space, reader:item of a place, reader · 2^32 + item
 unfoldable pub placeText : ℕ → List ℕ

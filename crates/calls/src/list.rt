@@ -1,27 +1,11 @@
 // A whole call list, run.
 use crate::run::run_line;
 use decimal::field_end;
+use decimal::put_bytes;
 use group_view::view::clear;
 use history::order::GroupOrder;
 ghost use mathlib.Core.Path.{_≡_};
-ghost use Rattle.calls.specs.Runs.{putOn, ranText, RanOn};
-
-// Puts s into out from `at` on, as far as out has room, and answers the place behind it.
-fn put_some(out: &mut [u8], at: usize, s: &[u8]) -> usize
-    ensures { λ r. ⌜ (r, now (out .exit)) ≡ putOn (now (out .entry)) at (now (s .entry)) ⌝ }
-{
-    let mut next = at;
-    let mut i: usize = 0;
-    while i < s.len() {
-        if out.len() <= next {
-            return next;
-        }
-        out[next] = s[i];
-        next += 1;
-        i += 1;
-    }
-    next
-}
+ghost use Rattle.calls.specs.Runs.{ranText, RanOn};
 
 // Runs a line, and puts its answer and a newline into out. `said` is a place to work in.
 fn run_on(
@@ -36,8 +20,8 @@ fn run_on(
 {
     let n = run_line(store, view, line, said);
     let text: &[u8] = said;
-    let next = put_some(out, at, &text[..n]);
-    put_some(out, next, b"\n")
+    let next = put_bytes(out, at, &text[..n]);
+    put_bytes(out, next, b"\n")
 }
 
 // Runs the lines of a call list from a fresh start, and puts their answers, each with a newline, at the front of out, as far as

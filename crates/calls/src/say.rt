@@ -1,5 +1,4 @@
 // What a line prints, into a lent list of bytes: each function says where the next byte goes.
-use decimal::Put;
 use decimal::put_bytes;
 use decimal::put_unsigned;
 use history::order::Accepted;
@@ -11,50 +10,30 @@ ghost use Rattle.history.specs.Calls.{offeredAs, toldAs, countsAs};
 ghost use Rattle.calls.specs.Run.{bad, ok, refusedText, countsText, offerText, doneText};
 ghost use Rattle.calls.specs.Said.{Said, placeText, placesText};
 
-fn put_text(out: &mut [u8], at: usize, s: &[u8]) -> usize
-    ensures { λ r. ⌜ Said at (now (s .entry)) r (now (out .entry)) (now (out .exit)) ⌝ }
-{
-    let placed = put_bytes(out, at, s);
-    match placed {
-        Put::At(next) => next,
-        Put::NoRoom => at,
-    }
-}
-
-fn put_number(out: &mut [u8], at: usize, n: u64) -> usize
-    ensures { λ r. ⌜ Said at (digitsOf n) r (now (out .entry)) (now (out .exit)) ⌝ }
-{
-    let placed = put_unsigned(out, at, n);
-    match placed {
-        Put::At(next) => next,
-        Put::NoRoom => at,
-    }
-}
-
 // A space and the number.
 fn put_spaced(out: &mut [u8], at: usize, n: u64) -> usize
     ensures { λ r. ⌜ Said at (32 ∷ digitsOf n) r (now (out .entry)) (now (out .exit)) ⌝ }
 {
-    let next = put_text(out, at, b" ");
-    put_number(out, next, n)
+    let next = put_bytes(out, at, b" ");
+    put_unsigned(out, next, n)
 }
 
 pub(crate) fn say_bad(out: &mut [u8], at: usize) -> usize
     ensures { λ r. ⌜ Said at bad r (now (out .entry)) (now (out .exit)) ⌝ }
 {
-    put_text(out, at, b"bad")
+    put_bytes(out, at, b"bad")
 }
 
 pub(crate) fn say_ok(out: &mut [u8], at: usize) -> usize
     ensures { λ r. ⌜ Said at ok r (now (out .entry)) (now (out .exit)) ⌝ }
 {
-    put_text(out, at, b"ok")
+    put_bytes(out, at, b"ok")
 }
 
 pub(crate) fn say_refused(out: &mut [u8], at: usize, n: u64) -> usize
     ensures { λ r. ⌜ Said at (refusedText n) r (now (out .entry)) (now (out .exit)) ⌝ }
 {
-    let next = put_text(out, at, b"refused");
+    let next = put_bytes(out, at, b"refused");
     put_spaced(out, next, n)
 }
 
@@ -62,9 +41,9 @@ pub(crate) fn say_offered(out: &mut [u8], at: usize, o: Offered) -> usize
     ensures { λ r. ⌜ Said at (offerText (offeredAs o)) r (now (out .entry)) (now (out .exit)) ⌝ }
 {
     match o {
-        Offered::Stored => put_text(out, at, b"stored"),
-        Offered::Joined => put_text(out, at, b"joined"),
-        Offered::Late => put_text(out, at, b"late"),
+        Offered::Stored => put_bytes(out, at, b"stored"),
+        Offered::Joined => put_bytes(out, at, b"joined"),
+        Offered::Late => put_bytes(out, at, b"late"),
         Offered::ReaderAboveSeven => say_refused(out, at, 1),
         Offered::NinthGroup => say_refused(out, at, 2),
         Offered::PairOver32 => say_refused(out, at, 3),
@@ -86,7 +65,7 @@ pub(crate) fn say_accepted(out: &mut [u8], at: usize, a: Accepted) -> usize
 fn say_counts(out: &mut [u8], at: usize, c: ReleaseCounts) -> usize
     ensures { λ r. ⌜ Said at (countsText (countsAs c)) r (now (out .entry)) (now (out .exit)) ⌝ }
 {
-    let bar = put_text(out, at, b" |");
+    let bar = put_bytes(out, at, b" |");
     let skipped = put_spaced(out, bar, c.skipped_after_timeout);
     let incomplete = put_spaced(out, skipped, c.incomplete_sets);
     let discarded = put_spaced(out, incomplete, c.discarded_samples);
@@ -98,8 +77,8 @@ fn say_sample(out: &mut [u8], at: usize, place: u64) -> usize
     ensures { λ r. ⌜ Said at (placeText place) r (now (out .entry)) (now (out .exit)) ⌝ }
 {
     let reader = put_spaced(out, at, place / 4294967296);
-    let colon = put_text(out, reader, b":");
-    put_number(out, colon, place % 4294967296)
+    let colon = put_bytes(out, reader, b":");
+    put_unsigned(out, colon, place % 4294967296)
 }
 
 fn say_samples(out: &mut [u8], at: usize, places: &[u64]) -> usize
@@ -123,7 +102,7 @@ pub(crate) fn say_released(
 ) -> usize
     ensures { λ r. ⌜ Said at (111 ∷ 117 ∷ 116 ∷ placesText (now (places .entry)) ++ countsText (countsAs counts)) r (now (out .entry)) (now (out .exit)) ⌝ }
 {
-    let first = put_text(out, at, b"out");
+    let first = put_bytes(out, at, b"out");
     let bar = say_samples(out, first, places);
     say_counts(out, bar, counts)
 }

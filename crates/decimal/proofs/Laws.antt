@@ -1,4 +1,4 @@
--- What is printed is read back; bytes put one after the other; examples of the definitions.
+-- What is printed is read back; examples of the definitions.
 use Prim.Native.Nat.{ℕ, zero, suc, _+_, _-_, _*_, _/_, _%_, _^_, _≤_, _<_}
 use mathlib.Core.Path.{_≡_, refl, sym, ap, _∙_}
 use mathlib.Core.Bool.{Bool, true, false}
@@ -12,8 +12,7 @@ use lib.IntN.{negsuc}
 use lib.ListN.{length, getD, drop, length-append}
 use lib.Seq.{paste, take-length, length-paste, take-paste, drop-paste, drop-drop}
 use Rattle.decimal.specs.Read.{given, isDigit, readOn, plain, readNumber, atMost, readUnsigned, minus, readSignedBy, readSigned}
-use Rattle.decimal.specs.Print.{oneOr, digitsIn, digitsOf, fits, putBy, putAt}
-use Rattle.decimal.proofs.Printing.{put-done}
+use Rattle.decimal.specs.Print.{oneOr, digitsIn, digitsOf}
 
 -- ---- what holds of one digit, and of each more, holds of a number's digits
 
@@ -97,25 +96,6 @@ pub read-printed : (n : ℕ) → n < 2 ^ 64 → readUnsigned (digitsOf n) ≡ so
 unfolding readUnsigned readNumber atMost given
 read-printed n h =
     let b : n < 10 ^ 20 = omega arith in rw (digits-plain n b, digits-read n b, le-leb n (2 ^ 64 - 1) (omega arith))
-
--- ---- bytes put after others are put with them
-
-pub put-both : (out : List ℕ) (at : ℕ) (a b : List ℕ) → at + length (a ++ b) ≤ length out
-    → putAt (putAt out at a) (at + length a) b ≡ putAt out at (a ++ b)
-unfolding fits putBy putAt
-put-both out at a b h =
-    let n : length (a ++ b) ≡ length a + length b = length-append a b in
-    let k : at + length a + length b ≡ at + length (a ++ b) = omega arith in
-    let o = paste out at a (length a) in
-    let p : o ≡ putAt out at a = put-done out at a (omega arith) .1 in
-    let q : length o ≡ length out = length-paste out at a (length a) (omega arith) (omega arith) in
-    let d : drop (at + length a + length b) o ≡ drop (at + length a + length b) out =
-    sym (drop-drop (length b) (at + length a) o)
-    ∙ ap (λ (l : List ℕ). drop (length b) l) (drop-paste out at a (length a) (omega arith) (omega arith))
-    ∙ drop-drop (length b) (at + length a) out in
-    ap (λ (l : List ℕ). putAt l (at + length a) b) (sym p)
-    ∙ sym (put-done o (at + length a) b (omega arith) .1)
-    ∙ rw (take-paste out at a (length a) (omega arith) (omega arith), d, k, take-length a, take-length b, le-leb (at + length (a ++ b)) (length out) h) (simp append-assoc)
 
 -- ---- examples
 

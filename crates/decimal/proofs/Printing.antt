@@ -1,14 +1,19 @@
 -- Laws of printing: a number's digits are those of its tenth with one more, and the room for them.
-use Prim.Native.Nat.{ℕ, zero, suc, _+_, _/_, _%_, _^_, _≤_, _<_}
+use Prim.Native.Nat.{ℕ, zero, suc, _+_, _-_, _/_, _%_, _^_, _≤_, _<_}
 use mathlib.Core.Path.{_≡_, refl, ap}
 use mathlib.Core.List.{List, [], _∷_, _++_, append-assoc}
+use mathlib.Core.Bool.{true, false, true≢false}
 use native.Mathlib.Omega.{arith}
-use borrow.Author.Tests.{lt-ltb, le-ltb, le-leb, lt-leb}
+use borrow.Author.Tests.{lt-ltb, le-ltb, ltb-true}
 use lib.Dec.{ltb}
-use mathlib.Core.Option.{none, some}
+use lib.IntN.{ℤ, pos, negsuc}
+use lib.Signed.{ltZ}
+use mir.Syntax.{w64}
+use mir.Val.{SFits, toZ, ofZ}
+use mir.ValLaws.{toZ-ofZ}
 use lib.ListN.{length, set, drop, length-set}
-use lib.Seq.{paste, take-length, drop-cons, drop-set-lt, getD-set-same}
-use Rattle.decimal.specs.Print.{oneOr, digitsIn, digitsOf, fits, placeBy, placeAfter, putBy, putAt}
+use lib.Seq.{drop-cons, drop-set-lt, getD-set-same}
+use Rattle.decimal.specs.Print.{oneOr, digitsIn, digitsOf, signedDigits}
 
 -- more room than the digits take changes nothing
 digits-room : (j k n : ℕ) → n < 10 ^ suc j → n < 10 ^ suc k → digitsIn j n ≡ digitsIn k n
@@ -50,16 +55,17 @@ module _ (ds t : List ℕ) (i : ℕ) (h : i < length t) where
   unfolding digitsOf
   last-written n e l = rw (e, digits-one 19 n (omega arith), drop-set (48 + n))
 
--- ---- bytes put into a list
+-- ---- a signed number's digits by its 64 bits
 
-module _ (out : List ℕ) (at : ℕ) (s : List ℕ) where
-  pub put-refused : length out < at + length s → (none ≡ placeAfter out at s) × (out ≡ putAt out at s)
-  unfolding fits placeBy placeAfter putBy putAt
-  put-refused h = let e = lt-leb (at + length s) (length out) h in (rw e, rw e)
+pub digits-below : (x : ℤ) → SFits w64 x → ltZ (toZ w64 (ofZ w64 x)) (pos 0) ≡ true → (signedDigits x ≡ 45 ∷ digitsOf (2 ^ 64 - 1 - ofZ w64 x + 1)) × (0 < ofZ w64 x)
+unfolding signedDigits
+digits-below (pos n) f h = absurd (let k : n < 0 = ltb-true n 0 (rw (toZ-ofZ w64 (pos n) f) at h) in omega arith)
+digits-below (negsuc n) f h =
+    let b : n < 2 ^ 63 = f .sfits in
+    let e : suc n ≡ 2 ^ 64 - 1 - (2 ^ 64 - suc n) + 1 = omega arith in
+    (ap (λ (m : ℕ). 45 ∷ digitsOf m) e, omega arith)
 
-  pub put-done : at + length s ≤ length out
-      → (some (at + length s) ≡ placeAfter out at s) × (paste out at s (length s) ≡ putAt out at s)
-  unfolding fits placeBy placeAfter putBy putAt
-  put-done h =
-      let e = le-leb (at + length s) (length out) h in
-      (rw e, rw (e, take-length s, append-assoc))
+pub digits-above : (x : ℤ) → SFits w64 x → ltZ (toZ w64 (ofZ w64 x)) (pos 0) ≡ false → signedDigits x ≡ digitsOf (ofZ w64 x)
+unfolding signedDigits
+digits-above (pos n) f h = refl
+digits-above (negsuc n) f h = absurd (true≢false (rw (toZ-ofZ w64 (negsuc n) f) at h))

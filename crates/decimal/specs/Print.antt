@@ -1,12 +1,10 @@
 -- A number's digits, and bytes put into a list.
-use Prim.Native.Nat.{ℕ, zero, suc, _+_, _/_, _%_}
+use Prim.Native.Nat.{ℕ, zero, suc, _+_, _-_, _/_, _%_, min}
 use mathlib.Core.Bool.{Bool, true, false}
 use mathlib.Core.List.{List, [], _∷_, _++_}
-use mathlib.Core.Option.{Option, none, some}
-use lib.Dec.{leb, ltb}
+use lib.IntN.{ℤ, pos, negsuc}
+use lib.Dec.{ltb}
 use lib.ListN.{length, take, drop}
-use Rattle.decimal.specs.declared.Put.{Put}
-use Rattle.decimal.specs.declared.Put.the-variants.{At, NoRoom}
 
 unfoldable pub oneOr : Bool → ℕ → List ℕ → List ℕ
 oneOr true n ds = (48 + n) ∷ []
@@ -21,25 +19,11 @@ digitsIn (suc k) n = oneOr (ltb n 10) n (digitsIn k (n / 10))
 unfoldable pub digitsOf : ℕ → List ℕ
 digitsOf n = digitsIn 19 n
 
-unfoldable pub putAs : Put → Option ℕ
-putAs (At p) = some p
-putAs NoRoom = none
+-- a whole number's, with a minus sign, 45, where it is negative
+unfoldable pub signedDigits : ℤ → List ℕ
+signedDigits (pos n) = digitsOf n
+signedDigits (negsuc n) = 45 ∷ digitsOf (suc n)
 
-unfoldable pub fits : List ℕ → ℕ → List ℕ → Bool
-fits out at s = leb (at + length s) (length out)
-
-unfoldable pub placeBy : Bool → ℕ → Option ℕ
-placeBy true p = some p
-placeBy false p = none
-
--- the place after s, put into out at `at`; none where it does not fit
-unfoldable pub placeAfter : List ℕ → ℕ → List ℕ → Option ℕ
-placeAfter out at s = placeBy (fits out at s) (at + length s)
-
-unfoldable pub putBy : Bool → List ℕ → ℕ → List ℕ → List ℕ
-putBy true out at s = take at out ++ (s ++ drop (at + length s) out)
-putBy false out at s = out
-
--- out with s put over its bytes from `at` on; out as it was where s does not fit
-unfoldable pub putAt : List ℕ → ℕ → List ℕ → List ℕ
-putAt out at s = putBy (fits out at s) out at s
+-- s put over out's bytes from `at` on, as far as out has room: the place behind what is put, and out
+unfoldable pub put : List ℕ → ℕ → List ℕ → ℕ × List ℕ
+put out at s = (at + min (length s) (length out - at), take at out ++ (take (length out - at) s ++ drop (at + length s) out))

@@ -1,11 +1,12 @@
 // The decimal fields of a line: numbers read from text and printed, and where a field or a line ends.
+use coherent_set::bits_of;
 ghost use mathlib.Core.Path.{_≡_};
 ghost use Prim.Native.Nat.{_≤_, _-_, _^_};
 ghost use mathlib.Core.Option.{some};
 ghost use lib.ListN.{length, drop};
 ghost use Rattle.decimal.specs.Read.{readOn, readUnsigned, readSigned, atMost, plus, minus, unsignedAs, signedAs};
 ghost use Rattle.decimal.specs.Split.{fieldEnd};
-ghost use Rattle.decimal.specs.Print.{digitsOf, putAt, putAs, placeAfter};
+ghost use Rattle.decimal.specs.Print.{digitsOf, signedDigits, put};
 
 pub enum Unsigned {
     Value(u64),
@@ -15,12 +16,6 @@ pub enum Unsigned {
 pub enum Signed {
     Value(i64),
     Bad,
-}
-
-// Where the next byte goes, or that there was no room and nothing was written.
-pub enum Put {
-    At(usize),
-    NoRoom,
 }
 
 const LARGEST: u64 = 18446744073709551615;
@@ -80,33 +75,42 @@ pub fn field_end(s: &[u8], at: usize, stop: u8) -> usize
     i
 }
 
-// Copies s to out from at on.
-pub fn put_bytes(out: &mut [u8], at: usize, s: &[u8]) -> Put
-    ensures { λ r. ⌜ putAs r ≡ placeAfter (now (out .entry)) at (now (s .entry)) ⌝ }
-    ensures { λ r. ⌜ now (out .exit) ≡ putAt (now (out .entry)) at (now (s .entry)) ⌝ }
+// Puts s into out from `at` on, as far as out has room, and answers the place behind it.
+pub fn put_bytes(out: &mut [u8], at: usize, s: &[u8]) -> usize
+    ensures { λ r. ⌜ (r, now (out .exit)) ≡ put (now (out .entry)) at (now (s .entry)) ⌝ }
 {
-    if out.len() < at {
-        return Put::NoRoom;
-    }
-    if out.len() - at < s.len() {
-        return Put::NoRoom; // s is too long
-    }
+    let mut next = at;
     let mut i: usize = 0;
     while i < s.len() {
-        out[at + i] = s[i];
+        if out.len() <= next {
+            return next; // no room for the rest
+        }
+        out[next] = s[i];
+        next += 1;
         i += 1;
     }
-    Put::At(at + i)
+    next
 }
 
-// Writes n's decimal digits to out from at on.
-pub fn put_unsigned(out: &mut [u8], at: usize, n: u64) -> Put
-    ensures { λ r. ⌜ putAs r ≡ placeAfter (now (out .entry)) at (digitsOf n) ⌝ }
-    ensures { λ r. ⌜ now (out .exit) ≡ putAt (now (out .entry)) at (digitsOf n) ⌝ }
+// Puts n's decimal digits.
+pub fn put_unsigned(out: &mut [u8], at: usize, n: u64) -> usize
+    ensures { λ r. ⌜ (r, now (out .exit)) ≡ put (now (out .entry)) at (digitsOf n) ⌝ }
 {
     let mut text = [0u8; 20];
     let k = spell(n, &mut text);
     put_bytes(out, at, &text[k..])
+}
+
+// Puts x's, with a minus sign in front where it is negative.
+pub fn put_signed(out: &mut [u8], at: usize, x: i64) -> usize
+    ensures { λ r. ⌜ (r, now (out .exit)) ≡ put (now (out .entry)) at (signedDigits x) ⌝ }
+{
+    let bits = bits_of(x);
+    if x < 0 {
+        let next = put_bytes(out, at, b"-");
+        return put_unsigned(out, next, !bits + 1); // the size of x
+    }
+    put_unsigned(out, at, bits)
 }
 
 // The number that the digits of s spell, with zeros in front or none.

@@ -8,6 +8,7 @@
 // An answer is `out`, each item written as kind:writer:set:item, `|`, the member number of the incomplete set or `-`, and
 // how many members are held then. Access is 0 or 1; writer k is fifteen zero bytes and k; set, own and complete may be `-`,
 // absent; places are whole items of the lent list. Any other line is `bad`. Before the first line the hold is empty.
+use call_line::field::number_if;
 use coherent_hold::gate::CoherentHold;
 use coherent_hold::gate::CoherentSetEnd;
 use coherent_hold::gate::Flag;
@@ -15,9 +16,15 @@ use coherent_hold::gate::GateAnswer;
 use coherent_hold::gate::Gated;
 use coherent_hold::gate::Item;
 use coherent_hold::gate::Kind;
-use decimal::Put;
-use decimal::Signed;
-use decimal::Unsigned;
+use coherent_set::signed_of;
+use decimal::put_bytes;
+use decimal::put_signed;
+use decimal::put_unsigned;
+use fields::byte_at;
+use fields::field_count;
+use fields::long_at;
+use fields::only_byte;
+use fields::word_at;
 use history::entry::Optional;
 use libc::STDOUT_FILENO;
 use line_input::begin;
@@ -36,14 +43,9 @@ struct Answer {
     length: usize,
 }
 
-// A signed field that may be absent.
-enum Field {
-    Value(Optional),
-    Bad,
-}
-
-// The fields that every call has; the number is a set mark or an end's own number.
+// The fields that every call has, and whether they are good; the number is a set mark or an end's own number.
 struct Call {
+    ok: bool,
     access: bool,
     writer: [u8; 16],
     number: Optional,
@@ -52,113 +54,68 @@ struct Call {
 
 // ---- fields
 
-// Where the field after the one that ends at `end` begins. No line has more than 256 bytes.
-fn after(end: usize) -> usize {
-    if end < 256 {
-        return end + 1;
-    }
-    256
+struct ReadFlag {
+    ok: bool,
+    value: Flag,
 }
 
-// The number between two places of a line, if it is below `bound`.
-fn read_below(line: &[u8], from: usize, end: usize, bound: u64) -> Unsigned {
-    let number = read_number(line, from, end);
-    let Unsigned::Value(n) = number else {
-        return Unsigned::Bad;
-    };
-    if n < bound {
-        return Unsigned::Value(n);
-    }
-    Unsigned::Bad
-}
-
-fn read_number(line: &[u8], from: usize, end: usize) -> Unsigned {
-    if end < from {
-        return Unsigned::Bad;
-    }
-    if line.len() < end {
-        return Unsigned::Bad;
-    }
-    decimal::read_unsigned(&line[from..end])
-}
-
-// Whether the field is `-`.
-fn is_dash(line: &[u8], from: usize, end: usize) -> bool {
-    if end <= from {
-        return false;
-    }
-    if line.len() < end {
-        return false;
-    }
-    if end - from != 1 {
-        return false;
-    }
-    line[from] == b'-'
-}
-
-fn read_optional(line: &[u8], from: usize, end: usize) -> Field {
-    if is_dash(line, from, end) {
-        return Field::Value(Optional::Absent);
-    }
-    if end < from {
-        return Field::Bad;
-    }
-    if line.len() < end {
-        return Field::Bad;
-    }
-    let number = decimal::read_signed(&line[from..end]);
-    match number {
-        Signed::Value(x) => Field::Value(Optional::Present(x)),
-        Signed::Bad => Field::Bad,
+fn flag_at(line: &[u8], k: usize) -> ReadFlag {
+    match only_byte(line, k) {
+        b'-' => ReadFlag {
+            ok: true,
+            value: Flag::Absent,
+        },
+        b'0' => ReadFlag {
+            ok: true,
+            value: Flag::Incomplete,
+        },
+        b'1' => ReadFlag {
+            ok: true,
+            value: Flag::Complete,
+        },
+        _ => ReadFlag {
+            ok: false,
+            value: Flag::Absent,
+        },
     }
 }
 
 // GUID k: fifteen zero bytes and k.
-fn guid(k: u64) -> [u8; 16] {
-    let last = (k % 256) as u8;
-    [0, 0, 0, 0, 0, 0, 0, 0, 0, 0, 0, 0, 0, 0, 0, last]
+fn guid(k: u8) -> [u8; 16] {
+    [0, 0, 0, 0, 0, 0, 0, 0, 0, 0, 0, 0, 0, 0, 0, k]
+}
+
+fn call_of(line: &[u8]) -> Call {
+    let access = only_byte(line, 1);
+    let from = byte_at(line, 2);
+    let mark = number_if(line, 3);
+    let room = long_at(line, 5);
+    let writer = guid(from.value);
+    let number = mark.value;
+    let good = from.ok & mark.ok & room.ok & (field_count(line) == 6);
+    Call {
+        ok: good & ((access == b'0') | (access == b'1')),
+        access: access == b'1',
+        writer,
+        number,
+        places: room.value,
+    }
 }
 
 // ---- answers
 
-// Puts text at `at`, and answers where the next byte goes. Every answer has room.
-fn put(out: &mut Out, at: usize, text: &[u8]) -> usize {
-    let placed = decimal::put_bytes(out, at, text);
-    match placed {
-        Put::At(next) => next,
-        Put::NoRoom => at,
-    }
-}
-
-fn put_unsigned(out: &mut Out, at: usize, n: u64) -> usize {
-    let placed = decimal::put_unsigned(out, at, n);
-    match placed {
-        Put::At(next) => next,
-        Put::NoRoom => at,
-    }
-}
-
-// A signed number by its 64 bits.
-fn put_signed(out: &mut Out, at: usize, bits: u64) -> usize {
-    if 9223372036854775807 < bits {
-        let next = put(out, at, b"-");
-        return put_unsigned(out, next, std::num::wrapping_sub_u64(0, bits));
-    }
-    put_unsigned(out, at, bits)
-}
-
 fn put_kind(out: &mut Out, at: usize, tag: u64) -> usize {
     if tag % 2 == 1 {
-        return put(out, at, b" L:");
+        return put_bytes(out, at, b" L:");
     }
-    put(out, at, b" S:")
+    put_bytes(out, at, b" S:")
 }
 
 fn put_mark(out: &mut Out, at: usize, tag: u64, bits: u64) -> usize {
     if tag < 2 {
-        return put(out, at, b"-");
+        return put_bytes(out, at, b"-");
     }
-    put_signed(out, at, bits)
+    put_signed(out, at, signed_of(bits))
 }
 
 // Item i of the list.
@@ -170,9 +127,9 @@ fn put_item(out: &mut Out, at: usize, words: &[u64; 325], i: usize) -> usize {
     let tag = words[p];
     let at = put_kind(out, at, tag);
     let at = put_unsigned(out, at, words[p + 2]);
-    let at = put(out, at, b":");
+    let at = put_bytes(out, at, b":");
     let at = put_mark(out, at, tag, words[p + 3]);
-    let at = put(out, at, b":");
+    let at = put_bytes(out, at, b":");
     put_unsigned(out, at, words[p + 4])
 }
 
@@ -187,7 +144,7 @@ fn put_items(out: &mut Out, at: usize, words: &[u64; 325], count: usize) -> usiz
 }
 
 fn say(hold: CoherentHold, text: &[u8], out: &mut Out) -> Answer {
-    let length = put(out, 0, text);
+    let length = put_bytes(out, 0, text);
     Answer { hold, length }
 }
 
@@ -197,21 +154,21 @@ fn say_bad(hold: CoherentHold, out: &mut Out) -> Answer {
 
 // How many members are held, and the end of the line.
 fn say_held(hold: CoherentHold, at: usize, out: &mut Out) -> Answer {
-    let at = put(out, at, b" ");
+    let at = put_bytes(out, at, b" ");
     let at = put_unsigned(out, at, hold.len() as u64);
-    let length = put(out, at, b"\n");
+    let length = put_bytes(out, at, b"\n");
     Answer { hold, length }
 }
 
 fn say_out(hold: CoherentHold, words: &[u64; 325], count: usize, out: &mut Out) -> Answer {
-    let at = put(out, 0, b"out");
+    let at = put_bytes(out, 0, b"out");
     let at = put_items(out, at, words, count);
-    let at = put(out, at, b" | -");
+    let at = put_bytes(out, at, b" | -");
     say_held(hold, at, out)
 }
 
 fn say_incomplete(hold: CoherentHold, members: usize, out: &mut Out) -> Answer {
-    let at = put(out, 0, b"out | ");
+    let at = put_bytes(out, 0, b"out | ");
     let at = put_unsigned(out, at, members as u64);
     say_held(hold, at, out)
 }
@@ -242,7 +199,7 @@ fn run_item(
     call: Call,
     kind: Kind,
     set: Optional,
-    item: u64,
+    item: u32,
     out: &mut Out,
 ) -> Answer {
     let writer = call.writer;
@@ -250,7 +207,7 @@ fn run_item(
         kind,
         writer,
         set,
-        item: (item % 4294967296) as u32,
+        item,
     };
     let mut words = [0u64; 325];
     let gated = lend(hold, item, call.access, call.places, &mut words);
@@ -264,117 +221,44 @@ fn run_item(
     }
 }
 
-// The item stands between two places of the line.
-fn run_change(
-    hold: CoherentHold,
-    call: Call,
-    kind: Kind,
-    line: &[u8],
-    from: usize,
-    end: usize,
-    out: &mut Out,
-) -> Answer {
-    let number = read_below(line, from, end, 4294967296);
-    let Unsigned::Value(item) = number else {
-        return say_bad(hold, out);
-    };
-    let set = call.number;
-    run_item(hold, call, kind, set, item, out)
-}
-
-fn run_end(hold: CoherentHold, call: Call, complete: Flag, out: &mut Out) -> Answer {
-    let own = call.number;
-    let end = CoherentSetEnd { own, complete };
-    run_item(hold, call, Kind::End(end), Optional::Absent, 0, out)
-}
-
-// The complete flag stands between two places of the line.
-fn run_flag(
-    hold: CoherentHold,
-    call: Call,
-    line: &[u8],
-    from: usize,
-    end: usize,
-    out: &mut Out,
-) -> Answer {
-    if is_dash(line, from, end) {
-        return run_end(hold, call, Flag::Absent, out);
+fn run_change(hold: CoherentHold, kind: Kind, line: &[u8], out: &mut Out) -> Answer {
+    let call = call_of(line);
+    let item = word_at(line, 4);
+    if call.ok & item.ok {
+        let set = call.number;
+        return run_item(hold, call, kind, set, item.value, out);
     }
-    let number = read_below(line, from, end, 2);
-    let Unsigned::Value(flag) = number else {
-        return say_bad(hold, out);
-    };
-    if flag == 1 {
-        return run_end(hold, call, Flag::Complete, out);
-    }
-    run_end(hold, call, Flag::Incomplete, out)
+    say_bad(hold, out)
 }
 
-// The fourth field, an item or a flag, stands between two places of the line.
-fn run_kind(
-    hold: CoherentHold,
-    kind: u8,
-    call: Call,
-    line: &[u8],
-    from: usize,
-    end: usize,
-    out: &mut Out,
-) -> Answer {
-    match kind {
-        b'S' => run_change(hold, call, Kind::Sample, line, from, end, out),
-        b'L' => run_change(hold, call, Kind::Lifecycle, line, from, end, out),
-        b'E' => run_flag(hold, call, line, from, end, out),
+fn run_end(hold: CoherentHold, line: &[u8], out: &mut Out) -> Answer {
+    let call = call_of(line);
+    let flag = flag_at(line, 4);
+    if call.ok & flag.ok {
+        let own = call.number;
+        let complete = flag.value;
+        let end = CoherentSetEnd { own, complete };
+        return run_item(hold, call, Kind::End(end), Optional::Absent, 0, out);
+    }
+    say_bad(hold, out)
+}
+
+fn run_new(hold: CoherentHold, line: &[u8], out: &mut Out) -> Answer {
+    if field_count(line) == 1 {
+        return say(CoherentHold::new(), b"ok\n", out);
+    }
+    say_bad(hold, out)
+}
+
+// A line, without its newline. Its fields are read before anything is changed.
+fn run_line(hold: CoherentHold, line: &[u8], out: &mut Out) -> Answer {
+    match only_byte(line, 0) {
+        b'N' => run_new(hold, line, out),
+        b'S' => run_change(hold, Kind::Sample, line, out),
+        b'L' => run_change(hold, Kind::Lifecycle, line, out),
+        b'E' => run_end(hold, line, out),
         _ => say_bad(hold, out),
     }
-}
-
-// A call with fields, which are read before anything is changed.
-fn run_fields(hold: CoherentHold, kind: u8, line: &[u8], out: &mut Out) -> Answer {
-    let first = decimal::field_end(line, 2, b' ');
-    let second = decimal::field_end(line, after(first), b' ');
-    let third = decimal::field_end(line, after(second), b' ');
-    let fourth = decimal::field_end(line, after(third), b' ');
-    let flag = read_below(line, 2, first, 2);
-    let writer = read_below(line, after(first), second, 256);
-    let signed = read_optional(line, after(second), third);
-    let room = read_number(line, after(fourth), line.len());
-    let Unsigned::Value(on) = flag else {
-        return say_bad(hold, out);
-    };
-    let Unsigned::Value(k) = writer else {
-        return say_bad(hold, out);
-    };
-    let Unsigned::Value(places) = room else {
-        return say_bad(hold, out);
-    };
-    let Field::Value(number) = signed else {
-        return say_bad(hold, out);
-    };
-    let writer = guid(k);
-    let call = Call {
-        access: on == 1,
-        writer,
-        number,
-        places,
-    };
-    run_kind(hold, kind, call, line, after(third), fourth, out)
-}
-
-// A line, without its newline.
-fn run_line(hold: CoherentHold, line: &[u8], out: &mut Out) -> Answer {
-    if line.len() == 0 {
-        return say_bad(hold, out);
-    }
-    if line.len() == 1 {
-        if line[0] == b'N' {
-            return say(CoherentHold::new(), b"ok\n", out);
-        }
-        return say_bad(hold, out);
-    }
-    if line[1] != b' ' {
-        return say_bad(hold, out);
-    }
-    run_fields(hold, line[0], line, out)
 }
 
 // ---- the input

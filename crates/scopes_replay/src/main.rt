@@ -24,9 +24,14 @@ use coherent_set::CoherentSetMarker;
 use coherent_set::CurrentMarker;
 use coherent_set::Decoded;
 use coherent_set::GroupAccessScope;
-use decimal::Put;
-use decimal::Signed;
-use decimal::Unsigned;
+use decimal::put_bytes;
+use decimal::put_signed;
+use decimal::put_unsigned;
+use fields::field_count;
+use fields::long_at;
+use fields::number_at;
+use fields::only_byte;
+use fields::word_at;
 use libc::STDOUT_FILENO;
 use line_input::next_line;
 
@@ -47,35 +52,8 @@ struct Answer {
     length: usize,
 }
 
-// Puts text at `at`, and answers where the next byte goes. Every answer has room.
-fn put(out: &mut Out, at: usize, text: &[u8]) -> usize {
-    let placed = decimal::put_bytes(out, at, text);
-    match placed {
-        Put::At(next) => next,
-        Put::NoRoom => at,
-    }
-}
-
-fn put_unsigned(out: &mut Out, at: usize, n: u64) -> usize {
-    let placed = decimal::put_unsigned(out, at, n);
-    match placed {
-        Put::At(next) => next,
-        Put::NoRoom => at,
-    }
-}
-
-// The bits of -x are x's size, that of the least number too.
-fn put_signed(out: &mut Out, x: i64) -> usize {
-    let bits = coherent_set::bits_of(x);
-    if x < 0 {
-        let at = put(out, 0, b"-");
-        return put_unsigned(out, at, std::num::wrapping_sub_u64(0, bits));
-    }
-    put_unsigned(out, 0, bits)
-}
-
 fn say(scopes: Scopes, text: &[u8], out: &mut Out) -> Answer {
-    let length = put(out, 0, text);
+    let length = put_bytes(out, 0, text);
     Answer { scopes, length }
 }
 
@@ -101,7 +79,7 @@ fn say_unmet(scopes: Scopes, out: &mut Out) -> Answer {
 
 // Ends an answer at `at`.
 fn end_answer(scopes: Scopes, out: &mut Out, at: usize) -> Answer {
-    let length = put(out, at, b"\n");
+    let length = put_bytes(out, at, b"\n");
     Answer { scopes, length }
 }
 
@@ -111,7 +89,7 @@ fn say_unsigned(scopes: Scopes, n: u64, out: &mut Out) -> Answer {
 }
 
 fn say_signed(scopes: Scopes, x: i64, out: &mut Out) -> Answer {
-    let at = put_signed(out, x);
+    let at = put_signed(out, 0, x);
     end_answer(scopes, out, at)
 }
 
@@ -134,7 +112,7 @@ fn hex_value(digit: u8) -> u8 {
 
 fn put_byte(out: &mut Out, at: usize, b: u8) -> usize {
     let pair = [hex_digit(b / 16), hex_digit(b)];
-    put(out, at, &pair)
+    put_bytes(out, at, &pair)
 }
 
 fn put_hex(out: &mut Out, bytes: &[u8]) -> usize {
@@ -171,12 +149,8 @@ fn read_hex(text: &[u8], bytes: &mut [u8; 128]) -> bool {
     true
 }
 
-fn encode(scopes: Scopes, field: &[u8], out: &mut Out) -> Answer {
-    let number = decimal::read_signed(field);
-    let Signed::Value(x) = number else {
-        return say_bad(scopes, out);
-    };
-    let bytes = CoherentSetMarker::new(x).to_wire_bytes();
+fn encode(scopes: Scopes, number: i64, out: &mut Out) -> Answer {
+    let bytes = CoherentSetMarker::new(number).to_wire_bytes();
     let at = put_hex(out, &bytes);
     end_answer(scopes, out, at)
 }
@@ -206,13 +180,9 @@ fn decode_bytes(scopes: Scopes, bytes: &[u8; 128], count: usize, out: &mut Out) 
     }
 }
 
-fn begin(scopes: Scopes, field: &[u8], out: &mut Out) -> Answer {
-    let number = decimal::read_signed(field);
-    let Signed::Value(x) = number else {
-        return say_bad(scopes, out);
-    };
+fn begin(scopes: Scopes, number: i64, out: &mut Out) -> Answer {
     let access = scopes.access;
-    let begun = scopes.scope.begin(x);
+    let begun = scopes.scope.begin(number);
     match begun {
         CoherentBegun::Begun(scope) => say_ok(Scopes { scope, access }, out),
         CoherentBegun::PreconditionNotMet(scope) => say_unmet(Scopes { scope, access }, out),
@@ -240,32 +210,18 @@ fn current_marker(scopes: Scopes, out: &mut Out) -> Answer {
     }
 }
 
-fn access_at(scopes: Scopes, count: u64, generation: u64, out: &mut Out) -> Answer {
-    if 4294967295 < count {
-        return say_bad(scopes, out);
+fn new_access(scopes: Scopes, line: &[u8], out: &mut Out) -> Answer {
+    let count = word_at(line, 1);
+    let generation = long_at(line, 2);
+    if count.ok & generation.ok & (field_count(line) == 3) {
+        let scope = scopes.scope;
+        let access = GroupAccessScope {
+            open_count: count.value,
+            snapshot_generation: generation.value,
+        };
+        return say_ok(Scopes { scope, access }, out);
     }
-    let scope = scopes.scope;
-    let access = GroupAccessScope {
-        open_count: count as u32,
-        snapshot_generation: generation,
-    };
-    say_ok(Scopes { scope, access }, out)
-}
-
-fn new_access(scopes: Scopes, fields: &[u8], out: &mut Out) -> Answer {
-    let end = decimal::field_end(fields, 0, b' ');
-    if fields.len() <= end {
-        return say_bad(scopes, out);
-    }
-    let first = decimal::read_unsigned(&fields[0..end]);
-    let second = decimal::read_unsigned(&fields[end + 1..]);
-    let Unsigned::Value(count) = first else {
-        return say_bad(scopes, out);
-    };
-    let Unsigned::Value(generation) = second else {
-        return say_bad(scopes, out);
-    };
-    access_at(scopes, count, generation, out)
+    say_bad(scopes, out)
 }
 
 fn access_end(scopes: Scopes, out: &mut Out) -> Answer {
@@ -302,29 +258,30 @@ fn run_bare(scopes: Scopes, call: u8, out: &mut Out) -> Answer {
     }
 }
 
-// A call with fields, which are read before anything is changed.
-fn run_fields(scopes: Scopes, call: u8, fields: &[u8], out: &mut Out) -> Answer {
-    match call {
-        b'M' => encode(scopes, fields, out),
-        b'D' => decode(scopes, fields, out),
-        b'B' => begin(scopes, fields, out),
-        b'X' => new_access(scopes, fields, out),
-        _ => say_bad(scopes, out),
+// A call with a number.
+fn run_number(scopes: Scopes, call: u8, line: &[u8], out: &mut Out) -> Answer {
+    let number = number_at(line, 1);
+    if number.ok & (field_count(line) == 2) {
+        if call == b'M' {
+            return encode(scopes, number.value, out);
+        }
+        return begin(scopes, number.value, out);
     }
+    say_bad(scopes, out)
 }
 
-// A line, without its newline.
+// A line, without its newline. Its fields are read before anything is changed.
 fn run_line(scopes: Scopes, line: &[u8], out: &mut Out) -> Answer {
-    if line.len() == 0 {
-        return say_bad(scopes, out);
+    let call = only_byte(line, 0);
+    if line.len() < 2 {
+        return run_bare(scopes, call, out);
     }
-    if line.len() == 1 {
-        return run_bare(scopes, line[0], out);
+    match call {
+        b'M' | b'B' => run_number(scopes, call, line, out),
+        b'D' => decode(scopes, &line[2..], out),
+        b'X' => new_access(scopes, line, out),
+        _ => say_bad(scopes, out),
     }
-    if line[1] != b' ' {
-        return say_bad(scopes, out);
-    }
-    run_fields(scopes, line[0], &line[2..], out)
 }
 
 fn print(out: &Out, length: usize) {

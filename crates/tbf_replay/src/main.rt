@@ -8,9 +8,14 @@
 //   D sec nanosec sepsec sepnano                a due time        sec and nanosec, refused 10
 //
 // Numbers are decimal. Any other line is `bad`. Before the first line nothing is held.
-use decimal::Put;
-use decimal::Signed;
-use decimal::Unsigned;
+use decimal::put_bytes;
+use decimal::put_signed;
+use decimal::put_unsigned;
+use fields::field_count;
+use fields::long_at;
+use fields::number_at;
+use fields::only_byte;
+use fields::word_at;
 use filter_hold::tbf::DueAnswer;
 use filter_hold::tbf::Held;
 use filter_hold::tbf::HoldAnswer;
@@ -34,39 +39,12 @@ struct Answer {
     length: usize,
 }
 
-// Puts text at `at`, and answers where the next byte goes. Every answer has room.
-fn put(out: &mut Out, at: usize, text: &[u8]) -> usize {
-    let placed = decimal::put_bytes(out, at, text);
-    match placed {
-        Put::At(next) => next,
-        Put::NoRoom => at,
-    }
-}
-
-fn put_unsigned(out: &mut Out, at: usize, n: u64) -> usize {
-    let placed = decimal::put_unsigned(out, at, n);
-    match placed {
-        Put::At(next) => next,
-        Put::NoRoom => at,
-    }
-}
-
 fn wide(x: i32) -> i64 {
     x as i64
 }
 
-// The bits of -x are x's size.
-fn put_signed(out: &mut Out, at: usize, x: i64) -> usize {
-    let bits = coherent_set::bits_of(x);
-    if x < 0 {
-        let next = put(out, at, b"-");
-        return put_unsigned(out, next, std::num::wrapping_sub_u64(0, bits));
-    }
-    put_unsigned(out, at, bits)
-}
-
 fn say(hold: TbfHold, text: &[u8], out: &mut Out) -> Answer {
-    let length = put(out, 0, text);
+    let length = put_bytes(out, 0, text);
     Answer { hold, length }
 }
 
@@ -78,156 +56,79 @@ fn say_bad(hold: TbfHold, out: &mut Out) -> Answer {
     say(hold, b"bad\n", out)
 }
 
-// Where a field begins and ends.
-enum Span {
-    From(usize, usize),
-    Nowhere,
+// What was read of fields, with whether they are good.
+struct ReadSeconds {
+    ok: bool,
+    value: i32,
 }
 
-// Field k.
-fn span_of(fields: &[u8], k: usize) -> Span {
-    let mut at: usize = 0;
-    let mut i: usize = 0;
-    while i < k {
-        let end = decimal::field_end(fields, at, b' ');
-        if fields.len() <= end {
-            return Span::Nowhere;
-        }
-        at = end + 1;
-        i += 1;
-    }
-    Span::From(at, decimal::field_end(fields, at, b' '))
+struct ReadTime {
+    ok: bool,
+    value: Time,
 }
 
-// Whether field k is there, and is the last.
-fn ends_with(fields: &[u8], k: usize) -> bool {
-    let found = span_of(fields, k);
-    match found {
-        Span::From(_, end) => end == fields.len(),
-        Span::Nowhere => false,
-    }
+struct ReadSeparation {
+    ok: bool,
+    value: Separation,
 }
 
-// Field k.
-fn read_unsigned(fields: &[u8], k: usize) -> Unsigned {
-    let found = span_of(fields, k);
-    let Span::From(start, end) = found else {
-        return Unsigned::Bad;
-    };
-    if end < start {
-        return Unsigned::Bad;
-    }
-    if fields.len() < end {
-        return Unsigned::Bad;
-    }
-    decimal::read_unsigned(&fields[start..end])
-}
-
-fn read_signed(fields: &[u8], k: usize) -> Signed {
-    let found = span_of(fields, k);
-    let Span::From(start, end) = found else {
-        return Signed::Bad;
-    };
-    if end < start {
-        return Signed::Bad;
-    }
-    if fields.len() < end {
-        return Signed::Bad;
-    }
-    decimal::read_signed(&fields[start..end])
-}
-
-enum Narrow {
-    Value(u32),
-    Bad,
-}
-
-fn read_narrow(fields: &[u8], k: usize) -> Narrow {
-    let number = read_unsigned(fields, k);
-    let Unsigned::Value(n) = number else {
-        return Narrow::Bad;
-    };
-    if 4294967295 < n {
-        return Narrow::Bad;
-    }
-    Narrow::Value(n as u32)
-}
-
-enum Seconds {
-    Value(i32),
-    Bad,
-}
-
-fn read_seconds(fields: &[u8], k: usize) -> Seconds {
-    let number = read_signed(fields, k);
-    let Signed::Value(x) = number else {
-        return Seconds::Bad;
+fn seconds_at(line: &[u8], k: usize) -> ReadSeconds {
+    let read = number_at(line, k);
+    let x = read.value;
+    let bad = ReadSeconds {
+        ok: false,
+        value: 0,
     };
     if x < -2147483648 {
-        return Seconds::Bad;
+        return bad;
     }
     if 2147483647 < x {
-        return Seconds::Bad;
+        return bad;
     }
-    Seconds::Value(x as i32)
+    ReadSeconds {
+        ok: read.ok,
+        value: x as i32,
+    }
 }
 
-enum Moment {
-    At(Time),
-    Bad,
-}
-
-// Fields k and k + 1.
-fn read_moment(fields: &[u8], k: usize, next: usize) -> Moment {
-    let first = read_seconds(fields, k);
-    let Seconds::Value(sec) = first else {
-        return Moment::Bad;
+fn time_at(line: &[u8], sec: usize, nanosec: usize) -> ReadTime {
+    let first = seconds_at(line, sec);
+    let second = word_at(line, nanosec);
+    let value = Time {
+        sec: first.value,
+        nanosec: second.value,
     };
-    let second = read_narrow(fields, next);
-    let Narrow::Value(nanosec) = second else {
-        return Moment::Bad;
-    };
-    Moment::At(Time { sec, nanosec })
+    ReadTime {
+        ok: first.ok & second.ok,
+        value,
+    }
 }
 
-enum Distance {
-    Of(Separation),
-    Bad,
+fn separation_at(line: &[u8], sec: usize, nanosec: usize) -> ReadSeparation {
+    let first = word_at(line, sec);
+    let second = word_at(line, nanosec);
+    let value = Separation {
+        sec: first.value,
+        nanosec: second.value,
+    };
+    ReadSeparation {
+        ok: first.ok & second.ok,
+        value,
+    }
 }
 
-fn read_distance(fields: &[u8], k: usize, next: usize) -> Distance {
-    let first = read_narrow(fields, k);
-    let Narrow::Value(sec) = first else {
-        return Distance::Bad;
-    };
-    let second = read_narrow(fields, next);
-    let Narrow::Value(nanosec) = second else {
-        return Distance::Bad;
-    };
-    Distance::Of(Separation { sec, nanosec })
-}
-
-fn hold_one(hold: TbfHold, fields: &[u8], out: &mut Out) -> Answer {
-    if !ends_with(fields, 5) {
+fn hold_one(hold: TbfHold, line: &[u8], out: &mut Out) -> Answer {
+    let instance = long_at(line, 1);
+    let item = word_at(line, 2);
+    let arrival = time_at(line, 3, 4);
+    let separation = separation_at(line, 5, 6);
+    let good = instance.ok & item.ok & arrival.ok & separation.ok;
+    if !good | (field_count(line) != 7) {
         return say_bad(hold, out);
     }
-    let number = read_unsigned(fields, 0);
-    let Unsigned::Value(instance) = number else {
-        return say_bad(hold, out);
-    };
-    let narrow = read_narrow(fields, 1);
-    let Narrow::Value(item) = narrow else {
-        return say_bad(hold, out);
-    };
-    let moment = read_moment(fields, 2, 3);
-    let Moment::At(arrival) = moment else {
-        return say_bad(hold, out);
-    };
-    let distance = read_distance(fields, 4, 5);
-    let Distance::Of(separation) = distance else {
-        return say_bad(hold, out);
-    };
-    let holding = hold.hold(instance, item, arrival, separation);
+    let from = arrival.value;
+    let apart = separation.value;
+    let holding = hold.hold(instance.value, item.value, from, apart);
     let after = holding.hold;
     let answer = holding.answer;
     match answer {
@@ -237,15 +138,12 @@ fn hold_one(hold: TbfHold, fields: &[u8], out: &mut Out) -> Answer {
     }
 }
 
-fn supersede(hold: TbfHold, fields: &[u8], out: &mut Out) -> Answer {
-    if !ends_with(fields, 0) {
-        return say_bad(hold, out);
+fn supersede(hold: TbfHold, line: &[u8], out: &mut Out) -> Answer {
+    let instance = long_at(line, 1);
+    if instance.ok & (field_count(line) == 2) {
+        return say_ok(hold.supersede(instance.value), out);
     }
-    let number = read_unsigned(fields, 0);
-    let Unsigned::Value(instance) = number else {
-        return say_bad(hold, out);
-    };
-    say_ok(hold.supersede(instance), out)
+    say_bad(hold, out)
 }
 
 // The words of a list with room for so many samples; more than 32 are never due.
@@ -258,20 +156,16 @@ fn words_for(places: u64) -> usize
     64
 }
 
-fn take_due(hold: TbfHold, fields: &[u8], out: &mut Out) -> Answer {
-    if !ends_with(fields, 2) {
+fn take_due(hold: TbfHold, line: &[u8], out: &mut Out) -> Answer {
+    let now = time_at(line, 1, 2);
+    let places = long_at(line, 3);
+    let good = now.ok & places.ok;
+    if !good | (field_count(line) != 4) {
         return say_bad(hold, out);
     }
-    let moment = read_moment(fields, 0, 1);
-    let Moment::At(time) = moment else {
-        return say_bad(hold, out);
-    };
-    let number = read_unsigned(fields, 2);
-    let Unsigned::Value(places) = number else {
-        return say_bad(hold, out);
-    };
+    let time = now.value;
     let mut words = [0u64; 64];
-    let room = words_for(places);
+    let room = words_for(places.value);
     let taking = hold.take_due(time, &mut words[0..room]);
     let after = taking.hold;
     let answer = taking.answer;
@@ -282,14 +176,14 @@ fn take_due(hold: TbfHold, fields: &[u8], out: &mut Out) -> Answer {
 }
 
 fn put_sample(out: &mut Out, at: usize, instance: u64, item: u64) -> usize {
-    let mut next = put(out, at, b" ");
+    let mut next = put_bytes(out, at, b" ");
     next = put_unsigned(out, next, instance);
-    next = put(out, next, b":");
+    next = put_bytes(out, next, b":");
     put_unsigned(out, next, item)
 }
 
 fn say_taken(hold: TbfHold, n: usize, words: &[u64; 64], out: &mut Out) -> Answer {
-    let mut at = put(out, 0, b"out");
+    let mut at = put_bytes(out, 0, b"out");
     let mut i: usize = 0;
     while i < 32 {
         if i < n {
@@ -297,29 +191,29 @@ fn say_taken(hold: TbfHold, n: usize, words: &[u64; 64], out: &mut Out) -> Answe
         }
         i += 1;
     }
-    at = put(out, at, b" | ");
+    at = put_bytes(out, at, b" | ");
     at = put_unsigned(out, at, hold.len as u64);
-    let length = put(out, at, b"\n");
+    let length = put_bytes(out, at, b"\n");
     Answer { hold, length }
 }
 
 fn put_time(out: &mut Out, at: usize, t: Time, between: &[u8]) -> usize {
     let mut next = put_signed(out, at, wide(t.sec));
-    next = put(out, next, between);
+    next = put_bytes(out, next, between);
     put_unsigned(out, next, t.nanosec as u64)
 }
 
 fn put_held(out: &mut Out, at: usize, x: Held) -> usize {
     let due = x.due;
     let mut next = put_sample(out, at, x.instance, x.item as u64);
-    next = put(out, next, b":");
+    next = put_bytes(out, next, b":");
     put_time(out, next, due, b":")
 }
 
 fn say_held(hold: TbfHold, out: &mut Out) -> Answer {
     let n = hold.len;
     let held = hold.held;
-    let mut at = put(out, 0, b"held");
+    let mut at = put_bytes(out, 0, b"held");
     let mut i: usize = 0;
     while i < 32 {
         if i < n {
@@ -328,28 +222,25 @@ fn say_held(hold: TbfHold, out: &mut Out) -> Answer {
         }
         i += 1;
     }
-    let length = put(out, at, b"\n");
+    let length = put_bytes(out, at, b"\n");
     Answer { hold, length }
 }
 
-fn due_alone(hold: TbfHold, fields: &[u8], out: &mut Out) -> Answer {
-    if !ends_with(fields, 3) {
+fn due_alone(hold: TbfHold, line: &[u8], out: &mut Out) -> Answer {
+    let arrival = time_at(line, 1, 2);
+    let separation = separation_at(line, 3, 4);
+    let good = arrival.ok & separation.ok;
+    if !good | (field_count(line) != 5) {
         return say_bad(hold, out);
     }
-    let moment = read_moment(fields, 0, 1);
-    let Moment::At(arrival) = moment else {
-        return say_bad(hold, out);
-    };
-    let distance = read_distance(fields, 2, 3);
-    let Distance::Of(separation) = distance else {
-        return say_bad(hold, out);
-    };
-    if 1000000000 <= separation.nanosec {
+    let from = arrival.value;
+    let apart = separation.value;
+    if 1000000000 <= apart.nanosec {
         return say(hold, b"refused 10\n", out);
     }
-    let due = filter_hold::tbf::time_after(arrival, separation);
+    let due = filter_hold::tbf::time_after(from, apart);
     let at = put_time(out, 0, due, b" ");
-    let length = put(out, at, b"\n");
+    let length = put_bytes(out, at, b"\n");
     Answer { hold, length }
 }
 
@@ -362,29 +253,19 @@ fn run_bare(hold: TbfHold, call: u8, out: &mut Out) -> Answer {
     }
 }
 
-// A call with fields, which are read before anything is changed.
-fn run_fields(hold: TbfHold, call: u8, fields: &[u8], out: &mut Out) -> Answer {
+// A line, without its newline. Its fields are read before anything is changed.
+fn run_line(hold: TbfHold, line: &[u8], out: &mut Out) -> Answer {
+    let call = only_byte(line, 0);
+    if field_count(line) == 1 {
+        return run_bare(hold, call, out);
+    }
     match call {
-        b'H' => hold_one(hold, fields, out),
-        b'S' => supersede(hold, fields, out),
-        b'T' => take_due(hold, fields, out),
-        b'D' => due_alone(hold, fields, out),
+        b'H' => hold_one(hold, line, out),
+        b'S' => supersede(hold, line, out),
+        b'T' => take_due(hold, line, out),
+        b'D' => due_alone(hold, line, out),
         _ => say_bad(hold, out),
     }
-}
-
-// A line, without its newline.
-fn run_line(hold: TbfHold, line: &[u8], out: &mut Out) -> Answer {
-    if line.len() == 0 {
-        return say_bad(hold, out);
-    }
-    if line.len() == 1 {
-        return run_bare(hold, line[0], out);
-    }
-    if line[1] != b' ' {
-        return say_bad(hold, out);
-    }
-    run_fields(hold, line[0], &line[2..], out)
 }
 
 fn print(out: &Out, length: usize) {

@@ -1,7 +1,7 @@
 // Participant group keys, in hex.
 use crate::say::Out;
-use crate::say::put;
 use crate::say::say_bad;
+use decimal::put_bytes;
 use presentation::ordering::participant_group_key;
 
 // The digit's value, 16 where it is none.
@@ -44,7 +44,7 @@ fn read_guid(text: &[u8], guid: &mut [u8; 16]) -> bool {
 
 fn put_byte(out: &mut Out, at: usize, b: u8) -> usize {
     let pair = [hex_digit(b / 16), hex_digit(b)];
-    put(out, at, &pair)
+    put_bytes(out, at, &pair)
 }
 
 fn put_hex(out: &mut Out, bytes: &[u8]) -> usize {
@@ -62,7 +62,7 @@ pub(crate) fn run_key(field: &[u8], out: &mut Out) -> usize {
     if read_guid(field, &mut guid) {
         let key = participant_group_key(guid);
         let at = put_hex(out, &key);
-        return put(out, at, b"\n");
+        return put_bytes(out, at, b"\n");
     }
     say_bad(out)
 }

@@ -27,7 +27,6 @@ use crate::rows::run_heard_row;
 use crate::rows::said;
 use crate::say::Out;
 use crate::say::print;
-use crate::say::put;
 use crate::say::say_accepted;
 use crate::say::say_offered;
 use crate::say::say_ok;
@@ -37,6 +36,7 @@ use crate::turn::run_turn_line;
 use call_line::line::LineOffer;
 use call_line::parse::Parsed;
 use call_line::parse::parse;
+use decimal::put_bytes;
 use group_view::view::clear;
 use group_view::view::note_digest;
 use group_view::view::note_pair;
@@ -82,7 +82,7 @@ fn run_offer(store: &mut Store, line: LineOffer, out: &mut Out) -> usize {
     let ordered = GroupOrdering::offer(store, item);
     match ordered {
         Ordered::Taken(offered) => say_offered(out, offered),
-        Ordered::GivenBack => put(out, 0, b"given back\n"),
+        Ordered::GivenBack => put_bytes(out, 0, b"given back\n"),
     }
 }
 
@@ -125,7 +125,7 @@ fn run_line(store: &mut Store, view: &mut View, rows: Rows, line: &[u8], out: &m
     match line[0] {
         b'P' => run_gap_row(rows, fields, out),
         b'Q' => run_heard_row(rows, fields, out),
-        b'U' => run_turn_line(store, view, rows, fields, out),
+        b'U' => run_turn_line(store, view, rows, line, out),
         b'K' => said(rows, run_key(fields, out)),
         _ => run_call(store, view, rows, line, out),
     }

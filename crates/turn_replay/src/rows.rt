@@ -1,6 +1,5 @@
 // The progress rows that wait for the next turn.
 use crate::say::Out;
-use crate::say::put;
 use crate::say::say_bad;
 use crate::say::say_ok;
 use call_line::line::LineGap;
@@ -8,6 +7,7 @@ use call_line::line::LineHeartbeat;
 use call_line::parse::Parsed;
 use call_line::parse::parse;
 use decimal::field_end;
+use decimal::put_bytes;
 use presentation::ordering::Beat;
 use presentation::ordering::Heard;
 use presentation::ordering::Progress;
@@ -90,9 +90,9 @@ fn add_row(rows: Rows, row: Progress, out: &mut Out) -> Answer {
 // The call of the line that the three spell together.
 fn parse_joined(letter: &[u8], front: &[u8], back: &[u8]) -> Parsed {
     let mut line = [0u8; 256];
-    let at = put(&mut line, 0, letter);
-    let at = put(&mut line, at, front);
-    let end = put(&mut line, at, back);
+    let at = put_bytes(&mut line, 0, letter);
+    let at = put_bytes(&mut line, at, front);
+    let end = put_bytes(&mut line, at, back);
     if 256 < end {
         return Parsed::Bad;
     }

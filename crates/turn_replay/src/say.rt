@@ -1,5 +1,6 @@
 // What is printed. Text goes into a lent list, and the answer is where the next byte goes.
-use decimal::Put;
+use decimal::put_bytes;
+use decimal::put_unsigned;
 use history::order::Accepted;
 use history::order::Offered;
 use history::order::ReleaseCounts;
@@ -8,42 +9,25 @@ use libc::STDOUT_FILENO;
 // Room for every answer: 256 samples of at most 13 bytes, and eight counts.
 pub(crate) type Out = [u8; 4096];
 
-// Puts text at `at`, and answers where the next byte goes. Every answer has room.
-pub(crate) fn put(out: &mut [u8], at: usize, text: &[u8]) -> usize {
-    let placed = decimal::put_bytes(out, at, text);
-    match placed {
-        Put::At(next) => next,
-        Put::NoRoom => at,
-    }
-}
-
-fn put_unsigned(out: &mut Out, at: usize, n: u64) -> usize {
-    let placed = decimal::put_unsigned(out, at, n);
-    match placed {
-        Put::At(next) => next,
-        Put::NoRoom => at,
-    }
-}
-
 pub(crate) fn say_bad(out: &mut Out) -> usize {
-    put(out, 0, b"bad\n")
+    put_bytes(out, 0, b"bad\n")
 }
 
 pub(crate) fn say_ok(out: &mut Out) -> usize {
-    put(out, 0, b"ok\n")
+    put_bytes(out, 0, b"ok\n")
 }
 
 pub(crate) fn say_refused(out: &mut Out, n: u64) -> usize {
-    let at = put(out, 0, b"refused ");
+    let at = put_bytes(out, 0, b"refused ");
     let at = put_unsigned(out, at, n);
-    put(out, at, b"\n")
+    put_bytes(out, at, b"\n")
 }
 
 pub(crate) fn say_offered(out: &mut Out, offered: Offered) -> usize {
     match offered {
-        Offered::Stored => put(out, 0, b"stored\n"),
-        Offered::Joined => put(out, 0, b"joined\n"),
-        Offered::Late => put(out, 0, b"late\n"),
+        Offered::Stored => put_bytes(out, 0, b"stored\n"),
+        Offered::Joined => put_bytes(out, 0, b"joined\n"),
+        Offered::Late => put_bytes(out, 0, b"late\n"),
         Offered::ReaderAboveSeven => say_refused(out, 1),
         Offered::NinthGroup => say_refused(out, 2),
         Offered::PairOver32 => say_refused(out, 3),
@@ -61,12 +45,12 @@ pub(crate) fn say_accepted(out: &mut Out, accepted: Accepted) -> usize {
 }
 
 fn put_spaced(out: &mut Out, at: usize, n: u64) -> usize {
-    let at = put(out, at, b" ");
+    let at = put_bytes(out, at, b" ");
     put_unsigned(out, at, n)
 }
 
 pub(crate) fn put_counts(out: &mut Out, at: usize, counts: ReleaseCounts) -> usize {
-    let at = put(out, at, b" |");
+    let at = put_bytes(out, at, b" |");
     let at = put_spaced(out, at, counts.skipped_after_timeout);
     let at = put_spaced(out, at, counts.incomplete_sets);
     let at = put_spaced(out, at, counts.discarded_samples);
@@ -76,7 +60,7 @@ pub(crate) fn put_counts(out: &mut Out, at: usize, counts: ReleaseCounts) -> usi
 // The sample of a place, reader · 2^32 + item.
 fn put_sample(out: &mut Out, at: usize, place: u64) -> usize {
     let at = put_spaced(out, at, place / 4294967296);
-    let at = put(out, at, b":");
+    let at = put_bytes(out, at, b":");
     put_unsigned(out, at, place % 4294967296)
 }
 

@@ -4,13 +4,12 @@ use crate::rows::Rows;
 use crate::rows::bad;
 use crate::rows::emptied;
 use crate::say::Out;
-use crate::say::put;
 use crate::say::put_counts;
 use crate::say::put_samples;
 use crate::say::say_refused;
-use decimal::Unsigned;
-use decimal::field_end;
-use decimal::read_unsigned;
+use decimal::put_bytes;
+use fields::field_count;
+use fields::long_at;
 use history::order::GroupOrder;
 use presentation::ordering::Turn;
 use presentation::ordering::Verdict;
@@ -90,16 +89,16 @@ fn run_turn(
     let mut list = [0u64; 256];
     let turn = lend(store, view, rows, time, places, &mut list);
     match turn {
-        Turn::NothingWaits => put(out, 0, b"idle\n"),
+        Turn::NothingWaits => put_bytes(out, 0, b"idle\n"),
         Turn::MalformedView => say_refused(out, 9),
         Turn::ListTooShort => say_refused(out, 5),
         Turn::Done(report) => {
-            let at = put(out, 0, b"out");
+            let at = put_bytes(out, 0, b"out");
             let at = put_samples(out, at, &list, report.count);
             let at = put_counts(out, at, GroupOrder::counts(store));
             let grown = report.grown;
             let at = put_counts(out, at, grown);
-            put(out, at, b"\n")
+            put_bytes(out, at, b"\n")
         }
     }
 }
@@ -108,21 +107,14 @@ pub(crate) fn run_turn_line(
     store: &mut Store,
     view: &View,
     rows: Rows,
-    fields: &[u8],
+    line: &[u8],
     out: &mut Out,
 ) -> Answer {
-    let end = field_end(fields, 0, b' ');
-    if fields.len() <= end {
+    let time = long_at(line, 1);
+    let places = long_at(line, 2);
+    if !(time.ok & places.ok) | (field_count(line) != 3) {
         return bad(rows, out);
     }
-    let first = read_unsigned(&fields[0..end]);
-    let second = read_unsigned(&fields[end + 1..]);
-    let Unsigned::Value(time) = first else {
-        return bad(rows, out);
-    };
-    let Unsigned::Value(places) = second else {
-        return bad(rows, out);
-    };
-    let length = run_turn(store, view, rows, time, places, out);
+    let length = run_turn(store, view, rows, time.value, places.value, out);
     emptied(rows, length)
 }

@@ -10,11 +10,11 @@ Inv-loop store out₀ at at₀ reader₀ t7 t8 out at' reader = reader ≤ 8
 abbrev μ-loop : tie.MeasureT-loop
 μ-loop store out₀ at at₀ reader₀ t7 t8 out at' reader = 8 - reader
 
-slice-aggregate-put : tie.Need-slice-aggregate-put Inv-loop μ-loop
-slice-aggregate-put c = search needs
+slice-aggregate-put-bytes : tie.Need-slice-aggregate-put-bytes Inv-loop μ-loop
+slice-aggregate-put-bytes c = search needs
 
-put-requires : tie.Need-put-requires Inv-loop μ-loop
-put-requires c κs = search needs
+put-bytes-requires : tie.Need-put-bytes-requires Inv-loop μ-loop
+put-bytes-requires c κs = search needs
 
 loop-holds : tie.Need-loop-holds Inv-loop μ-loop
 loop-holds c = search needs
@@ -37,20 +37,20 @@ loop-again c = search needs
 is-empty-requires : tie.Need-is-empty-requires Inv-loop μ-loop
 is-empty-requires c κs = search needs
 
-slice-aggregate-put-2 : tie.Need-slice-aggregate-put-2 Inv-loop μ-loop
-slice-aggregate-put-2 c = search needs
+slice-aggregate-put-bytes-2 : tie.Need-slice-aggregate-put-bytes-2 Inv-loop μ-loop
+slice-aggregate-put-bytes-2 c = search needs
 
-put-requires-2 : tie.Need-put-requires-2 Inv-loop μ-loop
-put-requires-2 c κs = search needs
+put-bytes-requires-2 : tie.Need-put-bytes-requires-2 Inv-loop μ-loop
+put-bytes-requires-2 c κs = search needs
 
 returns : tie.Need-returns Inv-loop μ-loop
 returns c = search needs
 
-slice-aggregate-put-3 : tie.Need-slice-aggregate-put-3 Inv-loop μ-loop
-slice-aggregate-put-3 c = search needs
+slice-aggregate-put-bytes-3 : tie.Need-slice-aggregate-put-bytes-3 Inv-loop μ-loop
+slice-aggregate-put-bytes-3 c = search needs
 
-put-requires-3 : tie.Need-put-requires-3 Inv-loop μ-loop
-put-requires-3 c κs = search needs
+put-bytes-requires-3 : tie.Need-put-bytes-requires-3 Inv-loop μ-loop
+put-bytes-requires-3 c κs = search needs
 
 returns-2 : tie.Need-returns-2 Inv-loop μ-loop
 returns-2 c = search needs
@@ -61,8 +61,8 @@ put-figures-spec =
     (tie.spec
     Inv-loop
     μ-loop
-    slice-aggregate-put
-    put-requires
+    slice-aggregate-put-bytes
+    put-bytes-requires
     loop-holds
     held-for-requires
     put-figure-requires
@@ -70,9 +70,9 @@ put-figures-spec =
     loop-less
     loop-again
     is-empty-requires
-    slice-aggregate-put-2
-    put-requires-2
+    slice-aggregate-put-bytes-2
+    put-bytes-requires-2
     returns
-    slice-aggregate-put-3
-    put-requires-3
+    slice-aggregate-put-bytes-3
+    put-bytes-requires-3
     returns-2)

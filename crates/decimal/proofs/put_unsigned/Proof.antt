@@ -6,7 +6,7 @@ use native.Mathlib.Omega.{arith}
 use borrow.Author.Needs.{needs}
 use borrow.Rule.Slice.PartAt.{part-to-end}
 use lib.ListN.{take, drop}
-use Rattle.decimal.specs.Print.{digitsOf, placeAfter, putAt}
+use Rattle.decimal.specs.Print.{digitsOf, put}
 use Rattle.decimal.proofs.put_unsigned.Statement.{statement}
 use Rattle.decimal.proofs.put_unsigned.Tie as tie
 
@@ -37,7 +37,7 @@ returns c =
     ap (λ (k : ℕ). take (k - sp .result) (drop (sp .result) (sp .last .1 .0))) (sym (sp .ensures .1))
     ∙ part-to-end (sp .last .1 .0) (sp .result)
     ∙ sp .ensures .2 in
-    (b .0 ∙ ap (λ (l : List ℕ). placeAfter (a .out .now) (a .at) l) e, b .1 ∙ ap (λ (l : List ℕ). putAt (a .out .now) (a .at) l) e)
+    b ∙ ap (λ (l : List ℕ). put (a .out .now) (a .at) l) e
 
 pub put-unsigned-spec : {M : Type 1} → statement M
 put-unsigned-spec =

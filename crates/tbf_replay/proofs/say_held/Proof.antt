@@ -10,11 +10,11 @@ Inv-loop hold out₀ n held at₀ i₀ t10 out at i = Unit {0}
 abbrev μ-loop : tie.MeasureT-loop
 μ-loop hold out₀ n held at₀ i₀ t10 out at i = 32 - i
 
-slice-aggregate-put : tie.Need-slice-aggregate-put Inv-loop μ-loop
-slice-aggregate-put c = omega arith
+slice-aggregate-put-bytes : tie.Need-slice-aggregate-put-bytes Inv-loop μ-loop
+slice-aggregate-put-bytes c = omega arith
 
-put-requires : tie.Need-put-requires Inv-loop μ-loop
-put-requires c κs = tt
+put-bytes-requires : tie.Need-put-bytes-requires Inv-loop μ-loop
+put-bytes-requires c κs = tt
 
 loop-holds : tie.Need-loop-holds Inv-loop μ-loop
 loop-holds c = tt
@@ -37,11 +37,11 @@ loop-less c = omega arith
 loop-again : tie.Need-loop-again Inv-loop μ-loop
 loop-again c = tt
 
-slice-aggregate-put-2 : tie.Need-slice-aggregate-put-2 Inv-loop μ-loop
-slice-aggregate-put-2 c = omega arith
+slice-aggregate-put-bytes-2 : tie.Need-slice-aggregate-put-bytes-2 Inv-loop μ-loop
+slice-aggregate-put-bytes-2 c = omega arith
 
-put-requires-2 : tie.Need-put-requires-2 Inv-loop μ-loop
-put-requires-2 c κs = tt
+put-bytes-requires-2 : tie.Need-put-bytes-requires-2 Inv-loop μ-loop
+put-bytes-requires-2 c κs = tt
 
 returns : tie.Need-returns Inv-loop μ-loop
 returns c = tt
@@ -52,8 +52,8 @@ say-held-spec =
     (tie.spec
     Inv-loop
     μ-loop
-    slice-aggregate-put
-    put-requires
+    slice-aggregate-put-bytes
+    put-bytes-requires
     loop-holds
     mul-x
     array-copy-out-x
@@ -61,6 +61,6 @@ say-held-spec =
     add-i
     loop-less
     loop-again
-    slice-aggregate-put-2
-    put-requires-2
+    slice-aggregate-put-bytes-2
+    put-bytes-requires-2
     returns)

@@ -3,8 +3,8 @@ use mir.Facts.{toZ-ofZ}
 use mathlib.Core.Option.{some}
 use mathlib.Core.Path.{sym, ap, _∙_}
 use Rattle.history.specs.Records.{optionalAs}
-use Rattle.call_line.specs.Line.{fieldAt, number, numberIf}
-use Rattle.call_line.specs.Parsed.{told}
+use Rattle.fields.specs.Fields.{fieldAt, number, told}
+use Rattle.call_line.specs.Line.{numberIf}
 use Rattle.call_line.proofs.Told.{is-dash, no-dash}
 use borrow.Author.Needs.{needs}
 use Rattle.call_line.proofs.field.number_if.Statement.{statement}

@@ -1,8 +1,8 @@
 -- `call_line::field::word_if` meets its contract.
 use mathlib.Core.Path.{sym, _∙_}
 use Rattle.history.specs.Calls.{digestAs}
-use Rattle.call_line.specs.Line.{fieldAt, word, wordIf}
-use Rattle.call_line.specs.Parsed.{told}
+use Rattle.fields.specs.Fields.{fieldAt, word, told}
+use Rattle.call_line.specs.Line.{wordIf}
 use Rattle.call_line.proofs.Told.{is-dash, no-dash}
 use borrow.Author.Needs.{needs}
 use Rattle.call_line.proofs.field.word_if.Statement.{statement}

@@ -1,6 +1,7 @@
 -- `call_line::parse::counted_line` meets its contract.
 use mathlib.Core.Bool.{true, false}
-use Rattle.call_line.specs.Parsed.{told, pairOf, parsedAs}
+use Rattle.fields.specs.Fields.{told}
+use Rattle.call_line.specs.Parsed.{pairOf, parsedAs}
 use Rattle.call_line.proofs.Lines.{counted-told}
 use borrow.Author.Needs.{needs}
 use Rattle.call_line.proofs.parse.counted_line.Statement.{statement}

@@ -1,6 +1,7 @@
 -- `call_line::parse::digest_line` meets its contract.
 use mathlib.Core.Bool.{true, false}
-use Rattle.call_line.specs.Parsed.{told, digestRowOf, parsedAs}
+use Rattle.fields.specs.Fields.{told}
+use Rattle.call_line.specs.Parsed.{digestRowOf, parsedAs}
 use Rattle.call_line.proofs.Lines.{digest-told}
 use borrow.Author.Needs.{needs}
 use Rattle.call_line.proofs.parse.digest_line.Statement.{statement}

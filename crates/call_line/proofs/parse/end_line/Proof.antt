@@ -12,8 +12,8 @@ number-if-requires c κs = search needs
 number-if-requires-2 : tie.Need-number-if-requires-2
 number-if-requires-2 c κs = search needs
 
-time-at-requires : tie.Need-time-at-requires
-time-at-requires c κs = search needs
+long-at-requires : tie.Need-long-at-requires
+long-at-requires c κs = search needs
 
 offer-line-requires : tie.Need-offer-line-requires
 offer-line-requires c κs = search needs
@@ -22,7 +22,7 @@ returns : tie.Need-returns
 unfolding whatAs
 returns c =
     let k = c .before in
-    let t = k .time-at in
+    let t = k .long-at in
     let o = k .before .before .before .number-if2 in
     let f = k .before .before .before .before .number-if in
     let a = k .before .before .before .before .before .before .args in
@@ -31,4 +31,4 @@ returns c =
 pub end-line-spec : {M : Type 1} → statement M
 end-line-spec =
     tie.close
-    (tie.spec number-if-requires number-if-requires-2 time-at-requires offer-line-requires returns)
+    (tie.spec number-if-requires number-if-requires-2 long-at-requires offer-line-requires returns)

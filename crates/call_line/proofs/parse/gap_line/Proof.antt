@@ -2,7 +2,8 @@
 use mathlib.Core.Bool.{true, false}
 use mir.Syntax.{w64}
 use mir.ValLaws.{toZ-ofZ}
-use Rattle.call_line.specs.Parsed.{told, gapOf, parsedAs}
+use Rattle.fields.specs.Fields.{told}
+use Rattle.call_line.specs.Parsed.{gapOf, parsedAs}
 use Rattle.call_line.proofs.Lines.{gap-told}
 use borrow.Author.Needs.{needs}
 use Rattle.call_line.proofs.parse.gap_line.Statement.{statement}

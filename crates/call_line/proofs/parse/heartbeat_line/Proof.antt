@@ -2,7 +2,8 @@
 use mathlib.Core.Bool.{true, false}
 use mir.Syntax.{w64}
 use mir.ValLaws.{toZ-ofZ}
-use Rattle.call_line.specs.Parsed.{told, heartbeatOf, parsedAs}
+use Rattle.fields.specs.Fields.{told}
+use Rattle.call_line.specs.Parsed.{heartbeatOf, parsedAs}
 use Rattle.call_line.proofs.Lines.{heartbeat-told}
 use borrow.Author.Needs.{needs}
 use Rattle.call_line.proofs.parse.heartbeat_line.Statement.{statement}

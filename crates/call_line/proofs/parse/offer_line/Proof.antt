@@ -3,7 +3,8 @@ use mathlib.Core.Bool.{true, false}
 use mir.Syntax.{w64}
 use mir.ValLaws.{toZ-ofZ}
 use Rattle.history.specs.Records.{whatAs}
-use Rattle.call_line.specs.Parsed.{told, offerOf, parsedAs}
+use Rattle.fields.specs.Fields.{told}
+use Rattle.call_line.specs.Parsed.{offerOf, parsedAs}
 use Rattle.call_line.proofs.Lines.{offer-told}
 use borrow.Author.Needs.{needs}
 use Rattle.call_line.proofs.parse.offer_line.Statement.{statement}

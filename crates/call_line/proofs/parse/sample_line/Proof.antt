@@ -9,8 +9,8 @@ use Rattle.call_line.proofs.parse.sample_line.Tie as tie
 word-at-requires : tie.Need-word-at-requires
 word-at-requires c κs = search needs
 
-time-at-requires : tie.Need-time-at-requires
-time-at-requires c κs = search needs
+long-at-requires : tie.Need-long-at-requires
+long-at-requires c κs = search needs
 
 offer-line-requires : tie.Need-offer-line-requires
 offer-line-requires c κs = search needs
@@ -19,11 +19,11 @@ returns : tie.Need-returns
 unfolding whatAs
 returns c =
     let k = c .before in
-    let t = k .time-at in
+    let t = k .long-at in
     let i = k .before .word-at in
     let a = k .before .before .before .args in
     c .offer-line .ensures ∙ sample-told (a .line .now) (i .result) (t .result) (i .ensures) (t .ensures)
 
 pub sample-line-spec : {M : Type 1} → statement M
 sample-line-spec =
-    tie.close (tie.spec word-at-requires time-at-requires offer-line-requires returns)
+    tie.close (tie.spec word-at-requires long-at-requires offer-line-requires returns)

@@ -9,18 +9,18 @@ use Rattle.calls.proofs.list.run_on.Tie as tie
 run-line-requires : tie.Need-run-line-requires
 run-line-requires c κs = search needs
 
-slice-aggregate-put-some : tie.Need-slice-aggregate-put-some
-slice-aggregate-put-some c =
+slice-aggregate-put-bytes : tie.Need-slice-aggregate-put-bytes
+slice-aggregate-put-bytes c =
     let l = c .before .before .before .before .run-line in sym (length-take-le (l .result) (l .last .1 .1 .1 .0) (ran-long (l .ensures)))
 
-put-some-requires : tie.Need-put-some-requires
-put-some-requires c κs = search needs
+put-bytes-requires : tie.Need-put-bytes-requires
+put-bytes-requires c κs = search needs
 
-slice-aggregate-put-some-2 : tie.Need-slice-aggregate-put-some-2
-slice-aggregate-put-some-2 c = search needs
+slice-aggregate-put-bytes-2 : tie.Need-slice-aggregate-put-bytes-2
+slice-aggregate-put-bytes-2 c = search needs
 
-put-some-requires-2 : tie.Need-put-some-requires-2
-put-some-requires-2 c κs = search needs
+put-bytes-requires-2 : tie.Need-put-bytes-requires-2
+put-bytes-requires-2 c κs = search needs
 
 same-length : tie.Need-same-length
 same-length c = search needs
@@ -29,17 +29,17 @@ returns : tie.Need-returns
 returns c =
     ran-on
     (c .before .before .before .before .before .before .before .before .before .before .before .before .run-line .ensures)
-    (c .before .before .before .before .before .before .before .put-some .ensures)
-    (c .before .before .put-some2 .ensures)
+    (c .before .before .before .before .before .before .before .put-bytes .ensures)
+    (c .before .before .put-bytes2 .ensures)
 
 pub run-on-spec : {M : Type 1} → statement M
 run-on-spec =
     tie.close
     (tie.spec
     run-line-requires
-    slice-aggregate-put-some
-    put-some-requires
-    slice-aggregate-put-some-2
-    put-some-requires-2
+    slice-aggregate-put-bytes
+    put-bytes-requires
+    slice-aggregate-put-bytes-2
+    put-bytes-requires-2
     same-length
     returns)

@@ -3,36 +3,36 @@ use mathlib.Core.Path.{ap}
 use borrow.Author.Needs.{needs}
 use Rattle.history.specs.Calls.{offeredAs}
 use Rattle.calls.specs.Run.{offerText}
-use Rattle.calls.proofs.Saying.{said-as}
+use Rattle.calls.proofs.Saying.{said, said-as}
 use Rattle.calls.proofs.say.say_offered.Statement.{statement}
 use Rattle.calls.proofs.say.say_offered.Tie as tie
 
 enum-told : tie.Need-enum-told
 enum-told c = search needs
 
-slice-aggregate-put-text : tie.Need-slice-aggregate-put-text
-slice-aggregate-put-text c = search needs
+slice-aggregate-put-bytes : tie.Need-slice-aggregate-put-bytes
+slice-aggregate-put-bytes c = search needs
 
-put-text-requires : tie.Need-put-text-requires
-put-text-requires c κs = search needs
+put-bytes-requires : tie.Need-put-bytes-requires
+put-bytes-requires c κs = search needs
 
 enum-told-2 : tie.Need-enum-told-2
 enum-told-2 c = search needs
 
-slice-aggregate-put-text-2 : tie.Need-slice-aggregate-put-text-2
-slice-aggregate-put-text-2 c = search needs
+slice-aggregate-put-bytes-2 : tie.Need-slice-aggregate-put-bytes-2
+slice-aggregate-put-bytes-2 c = search needs
 
-put-text-requires-2 : tie.Need-put-text-requires-2
-put-text-requires-2 c κs = search needs
+put-bytes-requires-2 : tie.Need-put-bytes-requires-2
+put-bytes-requires-2 c κs = search needs
 
 enum-told-3 : tie.Need-enum-told-3
 enum-told-3 c = search needs
 
-slice-aggregate-put-text-3 : tie.Need-slice-aggregate-put-text-3
-slice-aggregate-put-text-3 c = search needs
+slice-aggregate-put-bytes-3 : tie.Need-slice-aggregate-put-bytes-3
+slice-aggregate-put-bytes-3 c = search needs
 
-put-text-requires-3 : tie.Need-put-text-requires-3
-put-text-requires-3 c κs = search needs
+put-bytes-requires-3 : tie.Need-put-bytes-requires-3
+put-bytes-requires-3 c κs = search needs
 
 enum-told-4 : tie.Need-enum-told-4
 enum-told-4 c = search needs
@@ -63,21 +63,21 @@ same-length c = search needs
 
 returns : tie.Need-returns
 unfolding offeredAs
-returns c = said-as (ap (λ o. offerText (offeredAs o)) (c .before .before .before .before .before .enum-told .given .1)) (c .before .before .put-text .ensures)
+returns c = said-as (ap (λ o. offerText (offeredAs o)) (c .before .before .before .before .before .enum-told .given .1)) (said (c .before .before .put-bytes .ensures))
 
 same-length-2 : tie.Need-same-length-2
 same-length-2 c = search needs
 
 returns-2 : tie.Need-returns-2
 unfolding offeredAs
-returns-2 c = said-as (ap (λ o. offerText (offeredAs o)) (c .before .before .before .before .before .enum-told2 .given .1)) (c .before .before .put-text2 .ensures)
+returns-2 c = said-as (ap (λ o. offerText (offeredAs o)) (c .before .before .before .before .before .enum-told2 .given .1)) (said (c .before .before .put-bytes2 .ensures))
 
 same-length-3 : tie.Need-same-length-3
 same-length-3 c = search needs
 
 returns-3 : tie.Need-returns-3
 unfolding offeredAs
-returns-3 c = said-as (ap (λ o. offerText (offeredAs o)) (c .before .before .before .before .before .enum-told3 .given .1)) (c .before .before .put-text3 .ensures)
+returns-3 c = said-as (ap (λ o. offerText (offeredAs o)) (c .before .before .before .before .before .enum-told3 .given .1)) (said (c .before .before .put-bytes3 .ensures))
 
 same-length-4 : tie.Need-same-length-4
 same-length-4 c = search needs
@@ -112,14 +112,14 @@ say-offered-spec =
     tie.close
     (tie.spec
     enum-told
-    slice-aggregate-put-text
-    put-text-requires
+    slice-aggregate-put-bytes
+    put-bytes-requires
     enum-told-2
-    slice-aggregate-put-text-2
-    put-text-requires-2
+    slice-aggregate-put-bytes-2
+    put-bytes-requires-2
     enum-told-3
-    slice-aggregate-put-text-3
-    put-text-requires-3
+    slice-aggregate-put-bytes-3
+    put-bytes-requires-3
     enum-told-4
     say-refused-requires
     enum-told-5

@@ -11,7 +11,7 @@ use lib.ListN.{length, getD, take, drop, length-drop, drop-of-length-le}
 use lib.Seq.{drop-drop, drop-cons}
 use Rattle.decimal.specs.Split.{stopOr, before, fieldEnd}
 use Rattle.decimal.proofs.Splitting.{end-within, before-le}
-use Rattle.call_line.specs.Line.{lengthen, fieldsOf, fieldAt}
+use Rattle.fields.specs.Fields.{lengthen, fieldsOf, fieldAt}
 
 -- the fields of a list that has a space, and of one that has none
 fields-split : (s : List ℕ) → before 32 s < length s

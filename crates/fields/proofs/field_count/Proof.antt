@@ -1,13 +1,13 @@
--- `call_line::field::field_count` meets its contract: `n` and the fields from `i` on are one more than all.
+-- `fields::field_count` meets its contract: `n` and the fields from `i` on are one more than all.
 use Prim.Native.Nat.{_+_, _-_, _≤_}
 use mathlib.Core.Path.{_≡_}
 use native.Mathlib.Omega.{arith}
 use borrow.Author.Needs.{needs}
 use lib.ListN.{length, drop}
-use Rattle.call_line.specs.Line.{fieldsOf}
-use Rattle.call_line.proofs.Fields.{count-last, count-space, count-other}
-use Rattle.call_line.proofs.field.field_count.Statement.{statement}
-use Rattle.call_line.proofs.field.field_count.Tie as tie
+use Rattle.fields.specs.Fields.{fieldsOf}
+use Rattle.fields.proofs.Fields.{count-last, count-space, count-other}
+use Rattle.fields.proofs.field_count.Statement.{statement}
+use Rattle.fields.proofs.field_count.Tie as tie
 
 abbrev Inv-loop : tie.InvT-loop
 Inv-loop line n₀ i₀ n i = (i ≤ length line) × ((n ≤ i + 1) × (n + length (fieldsOf (drop i line)) ≡ length (fieldsOf line) + 1))

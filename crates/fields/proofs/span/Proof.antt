@@ -1,4 +1,4 @@
--- `call_line::field::span` meets its contract: field k of the line is field `left` of what stands from `at` on.
+-- `fields::span` meets its contract: field k of the line is field `left` of what stands from `at` on.
 use Prim.Native.Nat.{_≤_}
 use mathlib.Core.Path.{_≡_, refl, sym, ap, _∙_}
 use mathlib.Core.List.{[]}
@@ -6,10 +6,10 @@ use native.Mathlib.Omega.{arith}
 use borrow.Author.Needs.{needs}
 use borrow.Rule.Slice.PartAt.{part-to-end}
 use lib.ListN.{length, drop, drop-of-length-le}
-use Rattle.call_line.specs.Line.{fieldAt}
-use Rattle.call_line.proofs.Fields.{end-le, end-from, field-here, field-next, field-none}
-use Rattle.call_line.proofs.field.span.Statement.{statement}
-use Rattle.call_line.proofs.field.span.Tie as tie
+use Rattle.fields.specs.Fields.{fieldAt}
+use Rattle.fields.proofs.Fields.{end-le, end-from, field-here, field-next, field-none}
+use Rattle.fields.proofs.span.Statement.{statement}
+use Rattle.fields.proofs.span.Tie as tie
 
 abbrev Inv-loop : tie.InvT-loop
 Inv-loop line k at₀ left₀ at left = (at ≤ length line) × (fieldAt k line ≡ fieldAt left (drop at line))

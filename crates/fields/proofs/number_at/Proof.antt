@@ -1,13 +1,13 @@
--- `call_line::field::number_at` meets its contract.
+-- `fields::number_at` meets its contract.
 use mir.Facts.{toZ-ofZ}
 use mathlib.Core.Bool.{true}
 use mathlib.Core.Path.{sym, ap, _∙_}
 use Rattle.decimal.specs.Read.{signedAs, readSigned}
-use Rattle.call_line.specs.Line.{number}
-use Rattle.call_line.specs.Parsed.{told}
+use Rattle.fields.specs.Fields.{number}
+use Rattle.fields.specs.Fields.{told}
 use borrow.Author.Needs.{needs}
-use Rattle.call_line.proofs.field.number_at.Statement.{statement}
-use Rattle.call_line.proofs.field.number_at.Tie as tie
+use Rattle.fields.proofs.number_at.Statement.{statement}
+use Rattle.fields.proofs.number_at.Tie as tie
 
 span-requires : tie.Need-span-requires
 span-requires c κs = search needs

@@ -1,10 +1,10 @@
--- `call_line::field::only_byte` meets its contract.
+-- `fields::only_byte` meets its contract.
 use mathlib.Core.Path.{ap, _∙_}
-use Rattle.call_line.specs.Line.{only}
-use Rattle.call_line.proofs.Told.{only-one, only-other}
+use Rattle.fields.specs.Fields.{only}
+use Rattle.fields.proofs.Told.{only-one, only-other}
 use borrow.Author.Needs.{needs}
-use Rattle.call_line.proofs.field.only_byte.Statement.{statement}
-use Rattle.call_line.proofs.field.only_byte.Tie as tie
+use Rattle.fields.proofs.only_byte.Statement.{statement}
+use Rattle.fields.proofs.only_byte.Tie as tie
 
 span-requires : tie.Need-span-requires
 span-requires c κs = search needs
