@@ -1,6 +1,6 @@
 -- The fuel of a release never runs out: every discard takes an entry from held, every round a set's from held or a number's from pending.
 use Prim.Native.Nat.{ℕ, zero, suc, _+_, _*_, _≤_, _<_}
-use mathlib.Core.Path.{_≡_, refl, ap, _∙_}
+use mathlib.Core.Path.{_≡_, refl, ap}
 use mathlib.Core.Bool.{true, false, _&&_, not}
 use mathlib.Core.List.{List, [], _∷_}
 use mathlib.Core.Option.{Option, some, none}
@@ -13,10 +13,10 @@ use Rattle.group_order.specs.Entry.{What, sample, setEnd, Entry, inSet, 
 use Rattle.group_order.specs.Offer.{shares, replaced, marked, keepEnd}
 use Rattle.group_order.specs.Sets.{lowestSet, lowestEnded, whole, without, isStale, lowestStale}
 use Rattle.group_order.specs.Commit.{Turn, isHead, headOf, next}
-use Rattle.group_order.specs.Release.{Work, discard, handOut, finishIf, finish, discardOr, discardStale, withHeld, withOut, markOr, settle, commitOne, commitAll, commit, round, orStop, rounds, enough}
+use Rattle.group_order.specs.Release.{Work, discard, handOut, finishIf, finish, discardOr, discardStale, withHeld, withOut, markOr, settle, commit, round, orStop, rounds, enough}
 use Rattle.group_order.proofs.Lists.{and-left, length-keep, length-split, count-any, any-imp}
 use Rattle.group_order.proofs.Minima.{next-head, ended-there, stale-there}
-use Rattle.group_order.proofs.Turns.{stale-keeps, finish-keeps, round-keeps}
+use Rattle.group_order.proofs.Turns.{stale-keeps, round-keeps, taken, Keeps, commit-keeps}
 
 module _ {X : Type 0} where
   -- ---- discards
@@ -72,72 +72,9 @@ module _ {X : Type 0} where
   settle-pending e w (setEnd f o) none = refl
   settle-pending e w (setEnd f o) (some z) = refl
 
-  pub settle-committed : (e : Entry X) (w : Work X) (x : What X) (s : Option ℤ) → settle e w x s .committed ≡ w .committed
-  unfolding withHeld withOut
-  settle-committed e w (sample x) none = refl
-  settle-committed e w (sample x) (some z) = refl
-  settle-committed e w (setEnd f o) none = refl
-  settle-committed e w (setEnd f o) (some z) = refl
-
   pub stale-pending : (e : Entry X) (k : ℕ) (w : Work X) → discardStale k e w .pending ≡ w .pending
   unfolding discard
   stale-pending e k w = stale-keeps (λ v. v .pending ≡ w .pending) e (λ z v h. h) k w refl
-
-  pub stale-committed : (e : Entry X) (k : ℕ) (w : Work X) → discardStale k e w .committed ≡ w .committed
-  unfolding discard
-  stale-committed e k w = stale-keeps (λ v. v .committed ≡ w .committed) e (λ z v h. h) k w refl
-
-  pub stale-length : (e : Entry X) (k : ℕ) (w : Work X) → length (discardStale k e w .held) ≤ length (w .held)
-  unfolding discard without
-  stale-length e k w = stale-keeps (λ v. length (v .held) ≤ length (w .held)) e (λ z v h. omega (arith, length-keep (λ x. not (inSet (e .group) z x)) (v .held))) k w (omega arith)
-
-  -- the entries of one number: pending and committed stay, held grows by one each at most
-  pub commitAll-pending : (l : List (Entry X)) (w : Work X) → commitAll l w .pending ≡ w .pending
-  unfolding commitAll commitOne
-  commitAll-pending [] w = refl
-  commitAll-pending (e ∷ l) w =
-      let v : Work X = discardStale (length (w .held)) e w in
-      commitAll-pending l (commitOne e w) ∙ settle-pending e v (e .what) (e .set) ∙ stale-pending e (length (w .held)) w
-
-  pub commitAll-committed : (l : List (Entry X)) (w : Work X) → commitAll l w .committed ≡ w .committed
-  unfolding commitAll commitOne
-  commitAll-committed [] w = refl
-  commitAll-committed (e ∷ l) w =
-      let v : Work X = discardStale (length (w .held)) e w in
-      commitAll-committed l (commitOne e w) ∙ settle-committed e v (e .what) (e .set) ∙ stale-committed e (length (w .held)) w
-
-  pub commitAll-length : (l : List (Entry X)) (w : Work X) → length (commitAll l w .held) ≤ length l + length (w .held)
-  unfolding commitAll commitOne
-  commitAll-length [] w = omega arith
-  commitAll-length (e ∷ l) w =
-      let v : Work X = discardStale (length (w .held)) e w in
-      omega (arith, commitAll-length l (commitOne e w), settle-length e v (e .what) (e .set), stale-length e (length (w .held)) w)
-
-  pub commit-pending : (t : Turn) (n k : ℕ) (w : Work X) → commit t n k w .pending ≡ keep (λ e. not (isHead t n e)) (w .pending)
-  unfolding commit
-  commit-pending t n k w = commitAll-pending (headOf t n (w .pending)) _
-
-  pub commit-committed : (t : Turn) (n k : ℕ) (w : Work X) → commit t n k w .committed ≡ n
-  unfolding commit
-  commit-committed t n k w = commitAll-committed (headOf t n (w .pending)) _
-
-  pub commit-length : (t : Turn) (n k : ℕ) (w : Work X) → length (commit t n k w .held) ≤ length (headOf t n (w .pending)) + length (w .held)
-  unfolding commit
-  commit-length t n k w = commitAll-length (headOf t n (w .pending)) _
-
-  -- ---- finished sets
-
-  pub finish-pending : (t : Turn) (z : ℤ) (w : Work X) → finish t z w .pending ≡ w .pending
-  unfolding discard handOut
-  finish-pending t z w = finish-keeps (λ v. v .pending ≡ w .pending) t z (λ v h. h) (λ v h. h) w refl
-
-  pub finish-committed : (t : Turn) (z : ℤ) (w : Work X) → finish t z w .committed ≡ w .committed
-  unfolding discard handOut
-  finish-committed t z w = finish-keeps (λ v. v .committed ≡ w .committed) t z (λ v h. h) (λ v h. h) w refl
-
-  pub finish-held : (t : Turn) (z : ℤ) (w : Work X) → finish t z w .held ≡ without (t .guid) z (w .held)
-  unfolding finish discard handOut
-  finish-held t z w = (elim (whole (t .guid) z (t .counted) (w .held)) as (λ b. finishIf b (t .guid) z w .held ≡ without (t .guid) z (w .held)) [ true ↦ refl | false ↦ refl ])
 
   -- ---- rounds
 
@@ -146,12 +83,26 @@ module _ {X : Type 0} where
   size w = 2 * length (w .pending) + length (w .held)
 
   finish-falls : (t : Turn) (z : ℤ) (w : Work X) → lowestEnded (t .guid) (w .held) ≡ some z → size (finish t z w) < size w
-  unfolding size
-  finish-falls t z w h = omega (arith, ap length (finish-pending t z w), ap length (finish-held t z w), without-shorter (t .guid) z (w .held) (any-imp (λ x. inSet (t .guid) z x && marks x) (λ x. inSet (t .guid) z x) (λ x p. and-left (inSet (t .guid) z x) _ p) (w .held) (ended-there (t .guid) (w .held) z h)))
+  unfolding finish size discard handOut
+  finish-falls t z w h =
+      let s = without-shorter (t .guid) z (w .held) (any-imp (λ x. inSet (t .guid) z x && marks x) (λ x. inSet (t .guid) z x) (λ x p. and-left (inSet (t .guid) z x) _ p) (w .held) (ended-there (t .guid) (w .held) z h)) in
+      elim (whole (t .guid) z (t .counted) (w .held)) as (λ b. size (finishIf b (t .guid) z w) < size w) [ true ↦ omega arith | false ↦ omega arith ]
+
+  -- with one for each entry still to be committed it never grows
+  sized : (m : ℕ) (t : Turn) → Keeps t (λ l w. length l + size w ≤ m)
+  unfolding size discard handOut without headOf
+  sized m t = record {
+    at-discard = λ l z w r. omega (arith, length-keep (λ x. not (inSet (t .guid) z x)) (w .held));
+    at-hand-out = λ z w r. omega (arith, length-keep (λ x. not (inSet (t .guid) z x)) (w .held));
+    at-settle = λ e l w x y i o r. omega (arith, ap length (settle-pending e w x y), settle-length e w x y);
+    at-taken = λ n k w d r. omega (arith, length-split (λ e. isHead t n e) (w .pending));
+  }
 
   commit-falls : (t : Turn) (n k : ℕ) (w : Work X) → next t (w .pending) ≡ some n → size (commit t n k w) < size w
   unfolding size headOf count
-  commit-falls t n k w h = omega (arith, ap length (commit-pending t n k w), commit-length t n k w, length-split (λ e. isHead t n e) (w .pending), count-any (λ e. isHead t n e) (w .pending) (next-head t (w .pending) n h))
+  commit-falls t n k w h =
+      let r = commit-keeps (sized (length (headOf t n (w .pending)) + size (taken t n k w)) t) n k w (omega arith) in
+      omega (arith, length-split (λ e. isHead t n e) (w .pending), count-any (λ e. isHead t n e) (w .pending) (next-head t (w .pending) n h))
 
   falls : (t : Turn) (w v : Work X) → round t w ≡ some v → size v < size w
   falls t w v h = round-keeps (λ u. size u < size w) t w v h (λ z e. finish-falls t z w e) (λ n k d e. commit-falls t n k w e)
@@ -175,12 +126,3 @@ module _ {X : Type 0} where
   pub more : (t : Turn) (w : Work X) (k : ℕ) → enough w ≤ k → rounds k t w ≡ rounds (enough w) t w
   unfolding size enough
   more t w k h = same-rounds k (enough w) t w (omega arith) (omega arith)
-
-  -- pending and held together never grow
-  pub finish-stored : (t : Turn) (z : ℤ) (w : Work X) → length (finish t z w .pending) + length (finish t z w .held) ≤ length (w .pending) + length (w .held)
-  unfolding without
-  finish-stored t z w = omega (arith, ap length (finish-pending t z w), ap length (finish-held t z w), length-keep (λ h. not (inSet (t .guid) z h)) (w .held))
-
-  pub commit-stored : (t : Turn) (n k : ℕ) (w : Work X) → length (commit t n k w .pending) + length (commit t n k w .held) ≤ length (w .pending) + length (w .held)
-  unfolding headOf
-  commit-stored t n k w = omega (arith, ap length (commit-pending t n k w), commit-length t n k w, length-split (λ e. isHead t n e) (w .pending))

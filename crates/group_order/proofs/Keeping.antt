@@ -9,20 +9,20 @@ use lib.IntN.{ℤ}
 use lib.Dec.{leb, ltb, eqb}
 use lib.ListN.{length}
 use borrow.Author.Tests.{ltb-true, leb-true, lt-ltb, le-leb, eqb-true, eqb-false, not-true}
-use Rattle.group_order.specs.Lists.{keep, all, find}
+use Rattle.group_order.specs.Lists.{keep, all, count, find}
 use Rattle.group_order.specs.Guid.{Guid, sameGuid, before}
 use Rattle.group_order.specs.Entry.{What, sample, setEnd, Entry, ofGroup, inSet, marks}
 use Rattle.group_order.specs.State.{Group}
 use Rattle.group_order.specs.Offer.{shares, replaced, marked, keepEnd, markOf, join}
 use Rattle.group_order.specs.Sets.{without}
 use Rattle.group_order.specs.Commit.{Turn, isHead, headOf, next}
-use Rattle.group_order.specs.Release.{Work, discard, finish, withHeld, withOut, markOr, settle, commitAll, commit, rounds, enough, committedAt, atGroup, releaseGroup, releaseAll}
+use Rattle.group_order.specs.Release.{Work, discard, handOut, withHeld, withOut, markOr, settle, enough, committedAt, atGroup, releaseGroup, releaseAll}
 use Rattle.group_order.specs.Claim.{ascending}
-use Rattle.group_order.proofs.Lists.{not-both, and-left, and-right, all-snoc, all-keep, all-kept, all-imp, all-and, all-left, all-right, any-all}
+use Rattle.group_order.proofs.Lists.{not-both, and-left, and-right, all-snoc, all-keep, all-kept, all-imp, all-and, all-left, all-right, all-yes, any-all, count-all}
 use Rattle.group_order.proofs.Guids.{same-eq, before-not-same, after-not-same}
 use Rattle.group_order.proofs.Minima.{next-head, next-lower}
-use Rattle.group_order.proofs.Turns.{commitOne-keeps, commitAll-keeps, rounds-keep, round-keeps}
-use Rattle.group_order.proofs.Fuel.{finish-pending, finish-committed, finish-held, finish-stored, commit-pending, commit-committed, commit-stored}
+use Rattle.group_order.proofs.Turns.{taken, Keeps, all-rounds-keep, releaseAll-keeps}
+use Rattle.group_order.proofs.Frame.{release-fewer}
 
 -- an entry of number m against committed c and the number n that is committed, b whether it is of the group
 head-above : (b : Bool) (c n m : ℕ) → b && eqb n m ≡ true → not b || ltb c m ≡ true → c < n
@@ -56,37 +56,39 @@ module _ {X : Type 0} where
   unfolding join
   join-all p b e l d h = keepEnd-all p b (markOf (find (λ h. replaced e h) l)) e l d h
 
-  settle-all : (p : Entry X → Bool) → Blind p → (e : Entry X) (w : Work X) (x : What X) (s : Option ℤ) → p e ≡ true → all p (w .held) ≡ true → all p (settle e w x s .held) ≡ true
-  unfolding withHeld withOut
-  settle-all p b e w (sample x) none d h = h
-  settle-all p b e w (sample x) (some z) d h = all-snoc p (w .held) e h d
-  settle-all p b e w (setEnd f o) none d h = h
-  settle-all p b e w (setEnd f o) (some z) d h = keepEnd-all p b (markOr (e .time) (find (λ m. shares e m && marks m) (w .held))) e (w .held) d h
-
-  pub commitAll-all : (p : Entry X → Bool) → Blind p → (l : List (Entry X)) → all p l ≡ true → (w : Work X) → all p (w .held) ≡ true → all p (commitAll l w .held) ≡ true
-  unfolding discard without
-  commitAll-all p b = commitAll-keeps (λ v. all p (v .held) ≡ true) p (λ e v d h. commitOne-keeps (λ v. all p (v .held) ≡ true) e (λ z u k. all-keep p (λ x. not (inSet (e .group) z x)) (u .held) k) (λ u k. settle-all p b e u (e .what) (e .set) d k) v h)
-
-  pub commit-all : (p : Entry X → Bool) → Blind p → (t : Turn) (n k : ℕ) (w : Work X) → all p (headOf t n (w .pending)) ≡ true → all p (w .held) ≡ true → all p (commit t n k w .held) ≡ true
-  unfolding commit
-  commit-all p b t n k w d h = commitAll-all p b (headOf t n (w .pending)) d _ h
-
-  -- q of the pending entries, p of the held ones: kept if p holds of what the group's rounds commit
-  module _ (q p : Entry X → Bool) (b : Blind p) where
+  -- q of the pending entries, p of the held ones and those still to be committed, each about the number committed
+  module _ (q p : ℕ → Entry X → Bool) (b : (c : ℕ) → Blind (λ e. p c e)) where
     abbrev Both : Work X → Type 0
-    Both w = (all q (w .pending) ≡ true) × (all p (w .held) ≡ true)
+    Both w = (all (λ e. q (w .committed) e) (w .pending) ≡ true) × (all (λ e. p (w .committed) e) (w .held) ≡ true)
 
+    abbrev With : List (Entry X) → Work X → Type 0
+    With l w = (all (λ e. p (w .committed) e) l ≡ true) × Both w
+
+    settle-with : (e : Entry X) (l : List (Entry X)) (w : Work X) (x : What X) (y : Option ℤ) → p (w .committed) e ≡ true → With l w → With l (settle e w x y)
+    unfolding withHeld withOut
+    settle-with e l w (sample x) none d h = h
+    settle-with e l w (sample x) (some z) d h = (h .0, (h .1 .0, all-snoc (λ e. p (w .committed) e) (w .held) e (h .1 .1) d))
+    settle-with e l w (setEnd f o) none d h = h
+    settle-with e l w (setEnd f o) (some z) d h = (h .0, (h .1 .0, keepEnd-all (λ e. p (w .committed) e) (b (w .committed)) (markOr (e .time) (find (λ m. shares e m && marks m) (w .held))) e (w .held) d (h .1 .1)))
+
+    -- kept if it is where a number leaves pending
+    both : (t : Turn) → ((n k : ℕ) (w : Work X) → next t (w .pending) ≡ some n → Both w → With (headOf t n (w .pending)) (taken t n k w)) → Keeps t With
+    unfolding discard handOut without all
+    both t f = record {
+      at-discard = λ l z w h. (h .0, (h .1 .0, all-keep (λ e. p (w .committed) e) (λ x. not (inSet (t .guid) z x)) (w .held) (h .1 .1)));
+      at-hand-out = λ z w h. (h .0, (h .1 .0, all-keep (λ e. p (w .committed) e) (λ x. not (inSet (t .guid) z x)) (w .held) (h .1 .1)));
+      at-settle = λ e l w x y i o h. settle-with e l w x y (and-left (p (w .committed) e) _ (h .0)) (and-right (p (w .committed) e) _ (h .0), h .1);
+      at-taken = λ n k w d h. f n k w d (h .1);
+    }
+
+  -- tests that don't read that number: kept if p holds of what the group's rounds commit
+  module _ (q p : Entry X → Bool) (b : Blind p) where
     head-all : (t : Turn) → ((e : Entry X) → ofGroup (t .guid) e ≡ true → q e ≡ true → p e ≡ true) → (n : ℕ) (l : List (Entry X)) → all q l ≡ true → all p (headOf t n l) ≡ true
     unfolding headOf
     head-all t f n l h = all-imp (λ e. isHead t n e && q e) p (λ e d. f e (unfold isHead in and-left (ofGroup (t .guid) e) _ (and-left (isHead t n e) _ d)) (and-right (isHead t n e) _ d)) (keep (λ e. isHead t n e) l) (all-and (λ e. isHead t n e) q (keep (λ e. isHead t n e) l) (all-kept (λ e. isHead t n e) l) (all-keep q (λ e. isHead t n e) l h))
 
-    pub rounds-all : (t : Turn) → ((e : Entry X) → ofGroup (t .guid) e ≡ true → q e ≡ true → p e ≡ true) → (k : ℕ) (w : Work X) → Both w → Both (rounds k t w)
-    rounds-all t f = rounds-keep Both t (λ w v e h. round-keeps Both t w v e (λ z d. (rw (finish-pending t z w) (h .0), rw (finish-held t z w) (unfold without in all-keep p (λ x. not (inSet (t .guid) z x)) (w .held) (h .1)))) (λ n k c d. (rw (commit-pending t n k w) (all-keep q (λ e. not (isHead t n e)) (w .pending) (h .0)), commit-all p b t n k w (head-all t f n (w .pending) (h .0)) (h .1))))
-
-  -- ---- pending and held together never grow
-
-  pub rounds-stored : (t : Turn) (k : ℕ) (w : Work X) → length (rounds k t w .pending) + length (rounds k t w .held) ≤ length (w .pending) + length (w .held)
-  rounds-stored t k w = rounds-keep (λ v. length (v .pending) + length (v .held) ≤ length (w .pending) + length (w .held)) t (λ u v e h. round-keeps (λ v. length (v .pending) + length (v .held) ≤ length (w .pending) + length (w .held)) t u v e (λ z d. omega (arith, finish-stored t z u)) (λ n k c d. omega (arith, commit-stored t n k u))) k w (omega arith)
+    plain : (t : Turn) → ((e : Entry X) → ofGroup (t .guid) e ≡ true → q e ≡ true → p e ≡ true) → Keeps t (With (λ c. q) (λ c. p) (λ c. b))
+    plain t f = both (λ c. q) (λ c. p) (λ c. b) t (λ n k w d h. (head-all t f n (w .pending) (h .0), (all-keep q (λ e. not (isHead t n e)) (w .pending) (h .0), h .1)))
 
   -- ---- a group's numbers about committed
 
@@ -105,42 +107,25 @@ module _ {X : Type 0} where
   unfolding above isHead
   next-above t w n h k = any-all (λ e. isHead t n e) (λ e. above (t .guid) (w .committed) e) (λ e c d. head-above (ofGroup (t .guid) e) (w .committed) n (e .number) c d) (w .pending) (next-head t (w .pending) n h) (k .0)
 
-  commit-own : (t : Turn) (n k : ℕ) (w : Work X) → next t (w .pending) ≡ some n → Own (t .guid) w → Own (t .guid) (commit t n k w)
-  commit-own t n k w h o =
+  upTo-blind : (g : Guid) (c : ℕ) → Blind (λ e. upTo g c e)
+  unfolding upTo ofGroup marked
+  upTo-blind g c m e = refl
+
+  own : (t : Turn) → Keeps t (With (above (t .guid)) (upTo (t .guid)) (upTo-blind (t .guid)))
+  own t =
       let g : Guid = t .guid in
-      let a : all (λ e. above g n e) (keep (λ e. not (isHead t n e)) (w .pending)) ≡ true =
-      all-imp (λ e. (not (ofGroup g e) || leb n (e .number)) && not (isHead t n e)) (λ e. above g n e)
-      (λ e d. unfold above isHead in rest-above (ofGroup g e) n (e .number) (and-left (not (ofGroup g e) || leb n (e .number)) _ d) (and-right (not (ofGroup g e) || leb n (e .number)) _ d))
-      (keep (λ e. not (isHead t n e)) (w .pending))
-      (all-and (λ e. not (ofGroup g e) || leb n (e .number)) (λ e. not (isHead t n e)) (keep (λ e. not (isHead t n e)) (w .pending))
-      (all-keep (λ e. not (ofGroup g e) || leb n (e .number)) (λ e. not (isHead t n e)) (w .pending) (next-lower t (w .pending) n h))
-      (all-kept (λ e. not (isHead t n e)) (w .pending)))
-      in
-      let b : all (λ e. upTo g n e) (commit t n k w .held) ≡ true =
-      commit-all (λ e. upTo g n e) (λ m e. unfold upTo ofGroup marked in refl) t n k w
-      (all-imp (λ e. isHead t n e) (λ e. upTo g n e) (λ e d. unfold upTo isHead in head-upTo (ofGroup g e) n (e .number) d) (headOf t n (w .pending)) (unfold headOf in all-kept (λ e. isHead t n e) (w .pending)))
-      (all-imp (λ e. upTo g (w .committed) e) (λ e. upTo g n e) (λ e d. unfold upTo in more-upTo (ofGroup g e) (w .committed) n (e .number) (next-above t w n h o) d) (w .held) (o .1))
-      in
-      (rw (commit-pending t n k w, commit-committed t n k w) a, rw (commit-committed t n k w) b)
-
-  finish-own : (t : Turn) (z : ℤ) (w : Work X) → Own (t .guid) w → Own (t .guid) (finish t z w)
-  finish-own t z w o =
-      let b : all (λ e. upTo (t .guid) (w .committed) e) (without (t .guid) z (w .held)) ≡ true =
-      unfold without in all-keep (λ e. upTo (t .guid) (w .committed) e) (λ x. not (inSet (t .guid) z x)) (w .held) (o .1)
-      in
-      (rw (finish-pending t z w, finish-committed t z w) (o .0), rw (finish-held t z w, finish-committed t z w) b)
-
-  pub rounds-own : (t : Turn) (k : ℕ) (w : Work X) → Own (t .guid) w → Own (t .guid) (rounds k t w)
-  rounds-own t = rounds-keep (λ v. Own (t .guid) v) t (λ w v e o. round-keeps (λ v. Own (t .guid) v) t w v e (λ z d. finish-own t z w o) (λ n k c d. commit-own t n k w d o))
-
-  -- committed never falls
-  pub rounds-rise : (t : Turn) (k : ℕ) (w : Work X) → Own (t .guid) w → w .committed ≤ rounds k t w .committed
-  rounds-rise t k w o =
-      rounds-keep (λ v. Own (t .guid) v × (w .committed ≤ v .committed)) t
-      (λ u v e h. round-keeps (λ v. Own (t .guid) v × (w .committed ≤ v .committed)) t u v e
-      (λ z d. (finish-own t z u (h .0), omega (arith, h .1, finish-committed t z u)))
-      (λ n k c d. (commit-own t n k u d (h .0), omega (arith, h .1, commit-committed t n k u, next-above t u n d (h .0)))))
-      k w (o, omega arith) .1
+      both (above g) (upTo g) (upTo-blind g) t (λ n k w d o. (
+        all-imp (λ e. isHead t n e) (λ e. upTo g n e) (λ e d. unfold upTo isHead in head-upTo (ofGroup g e) n (e .number) d) (headOf t n (w .pending)) (unfold headOf in all-kept (λ e. isHead t n e) (w .pending)),
+        (
+          all-imp (λ e. (not (ofGroup g e) || leb n (e .number)) && not (isHead t n e)) (λ e. above g n e)
+              (λ e d. unfold above isHead in rest-above (ofGroup g e) n (e .number) (and-left (not (ofGroup g e) || leb n (e .number)) _ d) (and-right (not (ofGroup g e) || leb n (e .number)) _ d))
+              (keep (λ e. not (isHead t n e)) (w .pending))
+              (all-and (λ e. not (ofGroup g e) || leb n (e .number)) (λ e. not (isHead t n e)) (keep (λ e. not (isHead t n e)) (w .pending))
+              (all-keep (λ e. not (ofGroup g e) || leb n (e .number)) (λ e. not (isHead t n e)) (w .pending) (next-lower t (w .pending) n d))
+              (all-kept (λ e. not (isHead t n e)) (w .pending))),
+          all-imp (λ e. upTo g (w .committed) e) (λ e. upTo g n e) (λ e h. unfold upTo in more-upTo (ofGroup g e) (w .committed) n (e .number) (next-above t w n d o) h) (w .held) (o .1),
+        ),
+      ))
 
   -- ---- all groups, each with its turn
 
@@ -153,10 +138,6 @@ module _ {X : Type 0} where
   -- each group's pending numbers are above its committed, its held ones are not
   abbrev pub Fit : List Group → Work X → Type 0
   Fit gs w = (all (λ e. aboveEach gs e) (w .pending) ≡ true) × (all (λ e. upToEach gs e) (w .held) ≡ true)
-
-  upTo-blind : (g : Guid) (c : ℕ) → Blind (λ e. upTo g c e)
-  unfolding upTo ofGroup marked
-  upTo-blind g c m e = refl
 
   upToEach-blind : (gs : List Group) → Blind (λ e. upToEach gs e)
   unfolding upToEach upTo ofGroup marked
@@ -178,19 +159,17 @@ module _ {X : Type 0} where
     releaseAll-guids (g ∷ gs) w = ap (λ l. g .guid ∷ l) (releaseAll-guids gs (releaseGroup (t g) g w))
 
     pub releaseAll-stored : (gs : List Group) (w : Work X) → length (releaseAll t gs w .1 .pending) + length (releaseAll t gs w .1 .held) ≤ length (w .pending) + length (w .held)
-    unfolding releaseAll releaseGroup atGroup
-    releaseAll-stored [] w = omega arith
-    releaseAll-stored (g ∷ gs) w = omega (arith, releaseAll-stored gs (releaseGroup (t g) g w), rounds-stored (t g) (enough w) (atGroup g w))
+    releaseAll-stored gs w =
+        let n : (l : List (Entry X)) → count (λ e. true) l ≡ length l = λ l. count-all (λ e. true) l (all-yes l) in
+        let r : Work X = releaseAll t gs w .1 in
+        omega (arith, release-fewer (λ e. true) (λ m e. refl) t gs w, n (r .pending), n (r .held), n (w .pending), n (w .held))
 
     -- q of the pending entries, p of the held ones: kept if p holds of what groups that pass s commit
     pub releaseAll-all : (q p : Entry X → Bool) (b : Blind p) (s : Group → Bool)
         → ((x : Group) (e : Entry X) → s x ≡ true → ofGroup (x .guid) e ≡ true → q e ≡ true → p e ≡ true)
-        → (gs : List Group) → all s gs ≡ true → (w : Work X) → Both q p b w → Both q p b (releaseAll t gs w .1)
-    unfolding releaseAll releaseGroup atGroup all
-    releaseAll-all q p b s f [] a w h = h
-    releaseAll-all q p b s f (g ∷ gs) a w h =
-        releaseAll-all q p b s f gs (and-right (s g) _ a) (releaseGroup (t g) g w)
-        (rounds-all q p b (t g) (λ e d. f g e (and-left (s g) _ a) (rw (← at g) d)) (enough w) (atGroup g w) h)
+        → (gs : List Group) → all s gs ≡ true → (w : Work X) → Both (λ c. q) (λ c. p) (λ c. b) w → Both (λ c. q) (λ c. p) (λ c. b) (releaseAll t gs w .1)
+    unfolding atGroup all
+    releaseAll-all q p b s f gs a w h = releaseAll-keeps {P = With (λ c. q) (λ c. p) (λ c. b)} t s (λ x i. plain q p b (t x) (λ e d. f x e i (rw (← at x) d))) (λ x v r. r) gs a w (refl, h) .1
 
     pub releaseAll-fit : (gs : List Group) → ascending gs ≡ true → (w : Work X) → Fit gs w → Fit (releaseAll t gs w .0) (releaseAll t gs w .1)
     unfolding releaseAll releaseGroup atGroup committedAt all ascending aboveEach upToEach
@@ -199,13 +178,13 @@ module _ {X : Type 0} where
         let v : Work X = releaseGroup (t g) g w in
         let r : List Group × Work X = releaseAll t gs v in
         let apart : all (λ x. before (g .guid) (x .guid)) gs ≡ true = and-left (all (λ x. before (g .guid) (x .guid)) gs) _ a in
-        let own : Own (g .guid) (atGroup g w) = (all-left (λ e. above (g .guid) (g .committed) e) (λ e. aboveEach gs e) (w .pending) (h .0), all-left (λ e. upTo (g .guid) (g .committed) e) (λ e. upToEach gs e) (w .held) (h .1)) in
+        let mine : Own (g .guid) (atGroup g w) = (all-left (λ e. above (g .guid) (g .committed) e) (λ e. aboveEach gs e) (w .pending) (h .0), all-left (λ e. upTo (g .guid) (g .committed) e) (λ e. upToEach gs e) (w .held) (h .1)) in
         let rest : Fit gs (atGroup g w) = (all-right (λ e. above (g .guid) (g .committed) e) (λ e. aboveEach gs e) (w .pending) (h .0), all-right (λ e. upTo (g .guid) (g .committed) e) (λ e. upToEach gs e) (w .held) (h .1)) in
-        let own′ : Own (g .guid) v = subst (λ x. Own x v) (at g) (rounds-own (t g) (enough w) (atGroup g w) (subst (λ x. Own x (atGroup g w)) (sym (at g)) own)) in
-        let rest′ : Fit gs v = rounds-all (λ e. aboveEach gs e) (λ e. upToEach gs e) (upToEach-blind gs) (t g) (λ e d c. others-upTo (g .guid) e (rw (← at g) d) gs apart) (enough w) (atGroup g w) rest in
+        let mine′ : Own (g .guid) v = subst (λ x. Own x v) (at g) (all-rounds-keep (own (t g)) (enough w) (atGroup g w) (refl, subst (λ x. Own x (atGroup g w)) (sym (at g)) mine) .1) in
+        let rest′ : Fit gs v = all-rounds-keep (plain (λ e. aboveEach gs e) (λ e. upToEach gs e) (upToEach-blind gs) (t g) (λ e d c. others-upTo (g .guid) e (rw (← at g) d) gs apart)) (enough w) (atGroup g w) (refl, rest) .1 in
         let ih : Fit (r .0) (r .1) = releaseAll-fit gs (and-right (all (λ x. before (g .guid) (x .guid)) gs) _ a) v rest′ in
-        let own″ : Both (λ e. above (g .guid) (v .committed) e) (λ e. upTo (g .guid) (v .committed) e) (upTo-blind (g .guid) (v .committed)) (r .1) =
+        let mine″ : (all (λ e. above (g .guid) (v .committed) e) (r .1 .pending) ≡ true) × (all (λ e. upTo (g .guid) (v .committed) e) (r .1 .held) ≡ true) =
         releaseAll-all (λ e. above (g .guid) (v .committed) e) (λ e. upTo (g .guid) (v .committed) e) (upTo-blind (g .guid) (v .committed)) (λ x. before (g .guid) (x .guid))
-        (λ x e b d c. other-upTo (g .guid) (v .committed) (x .guid) e (before-not-same (g .guid) (x .guid) b) d) gs apart v own′
+        (λ x e b d c. other-upTo (g .guid) (v .committed) (x .guid) e (before-not-same (g .guid) (x .guid) b) d) gs apart v mine′
         in
-        (all-and (λ e. above (g .guid) (v .committed) e) (λ e. aboveEach (r .0) e) (r .1 .pending) (own″ .0) (ih .0), all-and (λ e. upTo (g .guid) (v .committed) e) (λ e. upToEach (r .0) e) (r .1 .held) (own″ .1) (ih .1))
+        (all-and (λ e. above (g .guid) (v .committed) e) (λ e. aboveEach (r .0) e) (r .1 .pending) (mine″ .0) (ih .0), all-and (λ e. upTo (g .guid) (v .committed) e) (λ e. upToEach (r .0) e) (r .1 .held) (mine″ .1) (ih .1))

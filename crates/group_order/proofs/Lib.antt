@@ -6,6 +6,7 @@ pub mod Distance
 pub mod Open
 pub mod Minima
 pub mod Turns
+pub mod Frame
 pub mod Fuel
 pub mod Hearing
 pub mod Keeping
@@ -17,7 +18,6 @@ pub mod NamesRun
 pub mod Stays
 pub mod Conserve
 pub mod Fates
-pub mod Frame
 pub mod Stuck
 pub mod Bound
 pub mod Clamp

@@ -1,18 +1,20 @@
--- What a round does, by cases; and what every discard, commit and round keeps, discards, commits and rounds keep.
+-- What a round does, by cases; and what each step of a group's rounds keeps, its rounds and a release keep.
 use Prim.Native.Nat.{ℕ, zero, suc, _-_}
 use mathlib.Core.Path.{_≡_, refl, ap, subst}
-use mathlib.Core.Bool.{Bool, true, false}
+use mathlib.Core.Bool.{Bool, true, false, not}
 use mathlib.Core.List.{List, [], _∷_}
 use mathlib.Core.Option.{Option, some, none}
 use mathlib.Core.Logic.{_⊎_, inl, inr}
 use lib.IntN.{ℤ}
 use lib.ListN.{length}
 use Rattle.group_order.specs.Lists.{keep, all, find}
-use Rattle.group_order.specs.Entry.{What, Entry}
+use Rattle.group_order.specs.Entry.{What, Entry, ofGroup}
+use Rattle.group_order.specs.State.{Group}
 use Rattle.group_order.specs.Sets.{lowestEnded, whole, lowestStale}
-use Rattle.group_order.specs.Commit.{Turn, isHead, next, ready}
-use Rattle.group_order.specs.Release.{Work, young, discard, handOut, finishIf, finish, discardOr, discardStale, settle, commitOne, commitAll, commit, commitIf, headStep, finishOr, waits, endStep, round, orStop, rounds}
-use Rattle.group_order.proofs.Lists.{and-left, and-right, none-not-some}
+use Rattle.group_order.specs.Commit.{Turn, isHead, headOf, next, ready}
+use Rattle.group_order.specs.Release.{Work, skip, young, discard, handOut, finishIf, finish, discardOr, discardStale, settle, commitOne, commitAll, commit, commitIf, headStep, finishOr, waits, endStep, round, orStop, rounds, enough, atGroup, releaseGroup, releaseAll}
+use Rattle.group_order.proofs.Lists.{and-left, and-right, none-not-some, all-kept, all-imp}
+use Rattle.group_order.proofs.Guids.{same-eq}
 
 -- ---- what a round does
 
@@ -94,24 +96,6 @@ module _ {X : Type 0} (P : Work X → Type 0) where
   stale-keeps e f zero w h = h
   stale-keeps e f (suc k) w h = (elim (lowestStale e (w .held)) as (λ o. P (discardOr (λ v. discardStale k e v) (e .group) w o)) [ none ↦ h | some z ↦ stale-keeps e f k (discard (e .group) z w) (f z w h) ])
 
-  -- one entry's commit: the discards and what settles it
-  pub commitOne-keeps : (e : Entry X) → ((z : ℤ) (w : Work X) → P w → P (discard (e .group) z w))
-      → ((w : Work X) → P w → P (settle e w (e .what) (e .set)))
-      → (w : Work X) → P w → P (commitOne e w)
-  unfolding commitOne
-  commitOne-keeps e f g w h = g (discardStale (length (w .held)) e w) (stale-keeps e f (length (w .held)) w h)
-
-  pub commitAll-keeps : (q : Entry X → Bool) → ((e : Entry X) (w : Work X) → q e ≡ true → P w → P (commitOne e w))
-      → (l : List (Entry X)) → all q l ≡ true → (w : Work X) → P w → P (commitAll l w)
-  unfolding commitAll all
-  commitAll-keeps q f [] a w h = h
-  commitAll-keeps q f (e ∷ l) a w h = commitAll-keeps q f l (and-right (q e) _ a) (commitOne e w) (f e w (and-left (q e) _ a) h)
-
-  pub finish-keeps : (t : Turn) (z : ℤ) → ((w : Work X) → P w → P (discard (t .guid) z w)) → ((w : Work X) → P w → P (handOut (t .guid) z w))
-      → (w : Work X) → P w → P (finish t z w)
-  unfolding finish
-  finish-keeps t z f g w h = (elim (whole (t .guid) z (t .counted) (w .held)) as (λ b. P (finishIf b (t .guid) z w)) [ true ↦ g w h | false ↦ f w h ])
-
   pub rounds-keep : (t : Turn) → ((w v : Work X) → round t w ≡ some v → P w → P v) → (k : ℕ) (w : Work X) → P w → P (rounds k t w)
   unfolding rounds
   rounds-keep t f zero w h = h
@@ -134,3 +118,50 @@ module _ {X : Type 0} (P : Work X → Type 0) where
       → ((n k : ℕ) → lowestEnded (t .guid) (w .held) ≡ none → next t (w .pending) ≡ some n → P (commit t n k w))
       → P v
   round-keeps t w v e f g = turns-keep t w v (round t w) (turned t w) e f g
+
+-- the work when number n has left pending and nothing of it is committed yet
+abbrev pub taken : {X : Type 0} → Turn → ℕ → ℕ → Work X → Work X
+taken t n k w = record {
+  committed = n;
+  pending = keep (λ e. not (isHead t n e)) (w .pending);
+  held = w .held;
+  out = w .out;
+  lost = w .lost;
+  counts = skip k (w .counts);
+}
+
+-- a claim about the entries that left pending and are still to be committed, and the work: the steps of a group's rounds keep it
+pub record Keeps {X : Type 0} (t : Turn) (P : List (Entry X) → Work X → Type 0) : Type 0 where
+  pub at-discard : (l : List (Entry X)) (z : ℤ) (w : Work X) → P l w → P l (discard (t .guid) z w)
+  pub at-hand-out : (z : ℤ) (w : Work X) → P [] w → P [] (handOut (t .guid) z w)
+  pub at-settle : (e : Entry X) (l : List (Entry X)) (w : Work X) (x : What X) (y : Option ℤ) → e .what ≡ x → ofGroup (t .guid) e ≡ true → P (e ∷ l) w → P l (settle e w x y)
+  pub at-taken : (n k : ℕ) (w : Work X) → next t (w .pending) ≡ some n → P [] w → P (headOf t n (w .pending)) (taken t n k w)
+
+module _ {X : Type 0} {P : List (Entry X) → Work X → Type 0} where
+  module _ {t : Turn} (k : Keeps t P) where
+    commitAll-keeps : (l : List (Entry X)) (w : Work X) → all (λ e. ofGroup (t .guid) e) l ≡ true → P l w → P [] (commitAll l w)
+    unfolding commitAll commitOne all ofGroup
+    commitAll-keeps [] w a h = h
+    commitAll-keeps (e ∷ l) w a h =
+        let o : ofGroup (t .guid) e ≡ true = and-left (ofGroup (t .guid) e) _ a in
+        let d : (z : ℤ) (v : Work X) → P (e ∷ l) v → P (e ∷ l) (discard (e .group) z v) = λ z v q. subst (λ g. P (e ∷ l) (discard g z v)) (same-eq (t .guid) (e .group) o) (k .at-discard (e ∷ l) z v q) in
+        commitAll-keeps l (commitOne e w) (and-right (ofGroup (t .guid) e) _ a)
+        (k .at-settle e l (discardStale (length (w .held)) e w) (e .what) (e .set) refl o (stale-keeps (λ v. P (e ∷ l) v) e d (length (w .held)) w h))
+
+    pub commit-keeps : (n j : ℕ) (w : Work X) → P (headOf t n (w .pending)) (taken t n j w) → P [] (commit t n j w)
+    unfolding commit headOf isHead
+    commit-keeps n j w h = commitAll-keeps (headOf t n (w .pending)) (taken t n j w) (all-imp (λ e. isHead t n e) (λ e. ofGroup (t .guid) e) (λ e i. and-left (ofGroup (t .guid) e) _ i) (headOf t n (w .pending)) (all-kept (λ e. isHead t n e) (w .pending))) h
+
+    finish-keeps : (z : ℤ) (w : Work X) → P [] w → P [] (finish t z w)
+    unfolding finish
+    finish-keeps z w h = elim (whole (t .guid) z (t .counted) (w .held)) as (λ b. P [] (finishIf b (t .guid) z w)) [ true ↦ k .at-hand-out z w h | false ↦ k .at-discard [] z w h ]
+
+    pub all-rounds-keep : (j : ℕ) (w : Work X) → P [] w → P [] (rounds j t w)
+    all-rounds-keep j w h = rounds-keep (λ v. P [] v) t (λ u v e q. round-keeps (λ v. P [] v) t u v e (λ z d. finish-keeps z u q) (λ n i c d. commit-keeps n i u (k .at-taken n i u d q))) j w h
+
+  -- through a release, if the rounds of each group keep it, and the change to a group
+  pub releaseAll-keeps : (t : Group → Turn) (ok : Group → Bool) → ((g : Group) → ok g ≡ true → Keeps (t g) P) → ((g : Group) (w : Work X) → P [] w → P [] (atGroup g w))
+      → (gs : List Group) → all ok gs ≡ true → (w : Work X) → P [] w → P [] (releaseAll t gs w .1)
+  unfolding releaseAll releaseGroup all
+  releaseAll-keeps t ok k c [] a w h = h
+  releaseAll-keeps t ok k c (g ∷ gs) a w h = releaseAll-keeps t ok k c gs (and-right (ok g) _ a) (releaseGroup (t g) g w) (all-rounds-keep (k g (and-left (ok g) _ a)) (enough w) (atGroup g w) (c g w h))
