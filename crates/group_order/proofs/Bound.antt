@@ -11,7 +11,7 @@ use lib.ListN.{length}
 use borrow.Author.Tests.{not-true, leb-true, ltb-true, lt-ltb, le-ltb, eq-eqb, eqb-true, ne-eqb}
 use Rattle.coherent_set.specs.Answer.{answered}
 use Rattle.group_order.specs.Lists.{keep, all, count, find, nth}
-use Rattle.group_order.specs.Guid.{Guid, sameGuid, before}
+use Rattle.group_order.specs.Guid.{Guid, sameGuid}
 use Rattle.group_order.specs.Entry.{What, sample, setEnd, Entry, ofGroup}
 use Rattle.group_order.specs.State.{State, fresh, isWriter, knowsGroup, knowsWriter, committedOf, Writer}
 use Rattle.group_order.specs.Marks.{number}
@@ -23,7 +23,7 @@ use Rattle.group_order.specs.Claim.{accepts, isAnswered, brings, takes, 
 use Rattle.group_order.proofs.Lists.{none-some, and-left, and-right, and-true, not-and, true-or-false, keep-keep, count-append, count-nil, count-last, count-cons, count-split, count-keep, count-imp, count-zero, count-any, length-keep, taken}
 use Rattle.group_order.proofs.Guids.{same-eq, same-refl}
 use Rattle.group_order.proofs.Reached.{fresh-reached, step-reached}
-use Rattle.group_order.proofs.Frame.{release-fewer}
+use Rattle.group_order.proofs.Frame.{Blind, release-fewer}
 use Rattle.group_order.proofs.Stuck.{isAt, isAbove, isUpTo, isOwed, owed-blind, stuck}
 
 -- ---- a call stores at most what it brings: over any test that is blind to the mark
@@ -33,7 +33,7 @@ module _ {X : Type 0} where
   unfoldable pub total : (Entry X → Bool) → State X → ℕ
   total q s = count q (s .pending) + count q (s .held)
 
-module _ {X : Type 0} (q : Entry X → Bool) (blind : (m : Option ℕ) (e : Entry X) → q (marked m e) ≡ q e) where
+module _ {X : Type 0} (q : Entry X → Bool) (blind : Blind q) where
   placed : (f : Fate) (s : State X) (e : Entry X) → total q (place f e s) ≤ total q s + count q (cond (accepts (answered f)) (e ∷ []) [])
   unfolding total place join keepEnd
   placed isStored s e = omega (arith, count-last q (s .pending) e, count-cons q e [])

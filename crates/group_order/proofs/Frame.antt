@@ -32,10 +32,6 @@ module _ {X : Type 0} where
   unfolding without inSet
   without-other g a z l f = keep-under (λ h. not (inSet a z h)) (λ e. ofGroup g e) (λ x h. rw (apart g a x f h)) l
 
-  head-other : (g : Guid) (t : Turn) (n : ℕ) (e : Entry X) → sameGuid g (t .guid) ≡ false → ofGroup g e ≡ true → not (isHead t n e) ≡ true
-  unfolding isHead
-  head-other g t n e f h = rw (apart g (t .guid) e f h)
-
   settle-same : (g : Guid) (P H : List (Entry X)) (e : Entry X) (w : Work X) (x : What X) (y : Option ℤ) → ofGroup g e ≡ false → Same g P H w → Same g P H (settle e w x y)
   unfolding withHeld withOut keepEnd replaced shares ofGroup marked
   settle-same g P H e w (sample x) none f r = r
@@ -54,7 +50,7 @@ module _ {X : Type 0} where
     at-discard = λ l z w r. (r .0, without-other g (t .guid) z (w .held) f ∙ r .1);
     at-hand-out = λ z w r. (r .0, without-other g (t .guid) z (w .held) f ∙ r .1);
     at-settle = λ e l w x y h o r. settle-same g P H e w x y (ap (λ x. sameGuid g x) (sym (same-eq (t .guid) (e .group) o)) ∙ f) r;
-    at-taken = λ n k w d r. (keep-under (λ e. not (isHead t n e)) (λ e. ofGroup g e) (λ e h. head-other g t n e f h) (w .pending) ∙ r .0, r .1);
+    at-taken = λ n k w d r. (keep-under (λ (e : Entry X). not (isHead t n e)) (λ e. ofGroup g e) (λ e h. unfold isHead in rw (apart g (t .guid) e f h)) (w .pending) ∙ r .0, r .1);
   }
 
   -- groups none of which is g leave its pending and its held entries
@@ -66,9 +62,13 @@ module _ {X : Type 0} where
       releaseAll-keeps {P = λ l v. Same g (keep (λ e. ofGroup g e) (w .pending)) (keep (λ e. ofGroup g e) (w .held)) v} t (λ x. not (isGroup g x))
       (λ x o. keeps-same g _ _ (t x) (ap (λ y. sameGuid g y) (same x) ∙ not-true _ o)) (λ x v r. r) gs a w (refl, refl)
 
-  -- ---- a release stores no entry more: over any test that is blind to the mark
+  -- ---- a release stores no entry more
 
-  module _ (q : Entry X → Bool) (blind : (m : Option ℕ) (e : Entry X) → q (marked m e) ≡ q e) where
+  -- a test that does not see a kept end's mark
+  abbrev pub Blind : (Entry X → Bool) → Type 0
+  Blind p = (m : Option ℕ) (e : Entry X) → p (marked m e) ≡ p e
+
+  module _ (q : Entry X → Bool) (blind : Blind q) where
     -- with those to be committed, at most n that pass
     abbrev AtMost : ℕ → List (Entry X) → Work X → Type 0
     AtMost n l w = count q l + count q (w .pending) + count q (w .held) ≤ n

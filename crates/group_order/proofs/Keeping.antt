@@ -22,7 +22,7 @@ use Rattle.group_order.proofs.Lists.{not-both, and-left, and-right, all
 use Rattle.group_order.proofs.Guids.{same-eq, before-not-same, after-not-same}
 use Rattle.group_order.proofs.Minima.{next-head, next-lower}
 use Rattle.group_order.proofs.Turns.{taken, Keeps, all-rounds-keep, releaseAll-keeps}
-use Rattle.group_order.proofs.Frame.{release-fewer}
+use Rattle.group_order.proofs.Frame.{Blind, release-fewer}
 
 -- an entry of number m against committed c and the number n that is committed, b whether it is of the group
 head-above : (b : Bool) (c n m : ℕ) → b && eqb n m ≡ true → not b || ltb c m ≡ true → c < n
@@ -42,10 +42,6 @@ head-upTo true n m d = le-leb m n (omega (arith, eqb-true n m d))
 head-upTo false n m d = refl
 
 module _ {X : Type 0} where
-  -- a test that does not see a kept end's mark
-  abbrev pub Blind : (Entry X → Bool) → Type 0
-  Blind p = (m : Option ℕ) (e : Entry X) → p (marked m e) ≡ p e
-
   -- ---- tests that hold of all entries
 
   pub keepEnd-all : (p : Entry X → Bool) → Blind p → (m : Option ℕ) (e : Entry X) (l : List (Entry X)) → p e ≡ true → all p l ≡ true → all p (keepEnd m e l) ≡ true
@@ -71,7 +67,7 @@ module _ {X : Type 0} where
     settle-with e l w (setEnd f o) none d h = h
     settle-with e l w (setEnd f o) (some z) d h = (h .0, (h .1 .0, keepEnd-all (λ e. p (w .committed) e) (b (w .committed)) (markOr (e .time) (find (λ m. shares e m && marks m) (w .held))) e (w .held) d (h .1 .1)))
 
-    -- kept if it is where a number leaves pending
+    -- the rounds keep it if a number that leaves pending does
     both : (t : Turn) → ((n k : ℕ) (w : Work X) → next t (w .pending) ≡ some n → Both w → With (headOf t n (w .pending)) (taken t n k w)) → Keeps t With
     unfolding discard handOut without all
     both t f = record {

@@ -1,25 +1,28 @@
 -- Where a release leaves an entry pending: its group has stored an entry up to that number that waited less than the timeout.
-use Prim.Native.Nat.{ℕ, _+_, _≤_, min, Ordering, Ordering·lt, Ordering·eq, Ordering·gt}
+use Prim.Native.Nat.{ℕ, _+_, _≤_}
 use mathlib.Core.Path.{_≡_, refl, sym, ap, _∙_, subst}
-use mathlib.Core.Bool.{Bool, true, false, _&&_, _||_, not, cond}
+use mathlib.Core.Bool.{Bool, true, false, _&&_, _||_, not}
 use mathlib.Core.List.{List, [], _∷_}
 use mathlib.Core.Option.{Option, some, none}
+use mathlib.Core.Logic.{inl, inr}
 use native.Mathlib.Omega.{arith}
 use lib.IntN.{ℤ}
-use lib.Dec.{ltb, leb, eqb, isEq}
+use lib.Dec.{ltb, leb, eqb}
 use lib.ListN.{length}
-use borrow.Author.Tests.{not-false, leb-true, leb-false, ltb-false, le-leb, eq-eqb, eqb-true}
+use borrow.Author.Tests.{not-false, leb-true, ltb-false, le-leb, eqb-true}
 use Rattle.group_order.specs.Lists.{keep, all, any, count, find}
-use Rattle.group_order.specs.Guid.{Guid, compareGuid, sameGuid, before, isLess}
+use Rattle.group_order.specs.Guid.{Guid, sameGuid, before}
 use Rattle.group_order.specs.Entry.{Entry, ofGroup, inSet, isMember}
 use Rattle.group_order.specs.State.{Group, isGroup, knowsGroup}
 use Rattle.group_order.specs.Offer.{marked}
 use Rattle.group_order.specs.Sets.{lowestEnded, endMissing}
-use Rattle.group_order.specs.Commit.{Turn, isHead, lowestNumber, least, next, ready}
-use Rattle.group_order.specs.Release.{Work, young, commitIf, headStep, finishOr, waits, endStep, round, rounds, enough, atGroup, releaseGroup, releaseAll}
+use Rattle.group_order.specs.Commit.{Turn, isHead, next}
+use Rattle.group_order.specs.Release.{Work, young, waits, round, enough, atGroup, releaseGroup, releaseAll}
 use Rattle.group_order.specs.Claim.{emptyAt, stopsEmpty, ascending}
-use Rattle.group_order.proofs.Lists.{and-left, and-right, and-true, not-both, true-or-false, or-left, or-right, keep-keep, all-imp, count-cons, count-imp, count-any, taken, find-test, find-count, find-some}
-use Rattle.group_order.proofs.Guids.{same-eq}
+use Rattle.group_order.proofs.Lists.{and-left, and-right, and-true, not-both, true-or-false, or-left, or-right, keep-keep, all-imp, count-imp, count-any, count-none, taken, find-test, find-count, find-some}
+use Rattle.group_order.proofs.Guids.{same-eq, before-not-same}
+use Rattle.group_order.proofs.Minima.{next-none, next-lower, next-head}
+use Rattle.group_order.proofs.Turns.{Stopped, why-stopped}
 use Rattle.group_order.proofs.Fuel.{stops}
 use Rattle.group_order.proofs.Frame.{frame, group-fewer}
 
@@ -45,53 +48,13 @@ module _ {X : Type 0} where
   unfolding isOwed isUpTo
   owes g n m e o a b = and-true _ _ (and-true _ _ o (le-leb (e .number) n a)) (le-leb m (e .time) b)
 
-  -- ---- the lowest number: there is none in no list; else it is in the list and nothing is below it
-
-  abbrev Lowest : List (Entry X) → Option ℕ → Type 0
-  Lowest l none = l ≡ []
-  Lowest l (some a) = (all (λ e. leb a (e .number)) l ≡ true) × (1 ≤ count (λ e. eqb a (e .number)) l)
-
-  lowest-cons : (e : Entry X) (l : List (Entry X)) (o : Option ℕ) → Lowest l o → Lowest (e ∷ l) (least (e .number) o)
-  unfolding all
-  lowest-cons e l none h = (
-    and-true _ _ (le-leb (e .number) (e .number) (omega arith)) (rw h),
-    count-any (λ x. eqb (e .number) (x .number)) (e ∷ l) (unfold any in rw (eq-eqb (e .number) (e .number) refl)),
-  )
-  lowest-cons e l (some b) h =
-      let a : ℕ = min (e .number) b in (
-        and-true _ _ (le-leb a (e .number) (omega arith)) (all-imp (λ x. leb b (x .number)) (λ x. leb a (x .number)) (λ x k. le-leb a (x .number) (omega (arith, leb-true))) l (h .0)),
-        (elim (leb (e .number) b) as (λ d. leb (e .number) b ≡ d → 1 ≤ count (λ x. eqb a (x .number)) (e ∷ l)) [
-          | true ↦ λ k.
-              let z : a ≡ e .number = omega (arith, leb-true) in
-              omega (arith, count-cons (λ x. eqb a (x .number)) e l, ap {B = ℕ} (λ d. cond d 1 0) (eq-eqb a (e .number) z))
-          | false ↦ λ k.
-              let z : a ≡ b = omega (arith, leb-false) in
-              rw z (omega (arith, count-cons (λ x. eqb b (x .number)) e l, h .1))
-        ]) refl,
-      )
-
-  lowest : (l : List (Entry X)) → Lowest l (lowestNumber l)
-  unfolding lowestNumber
-  lowest [] = refl
-  lowest (e ∷ l) = lowest-cons e l (lowestNumber l) (lowest l)
-
   -- ---- where a group's rounds stop
 
   module _ (t : Turn) (w : Work X) (n m : ℕ) (fresh-since : (e : Entry X) → young t (some e) ≡ true → m ≤ e .time) where
-    finish-stop : (b : Bool) (z : ℤ) → finishOr b t z w ≡ none → b ≡ true
-    finish-stop true z h = refl
-    finish-stop false z h = cc
-
-    commit-stop : (r y : Bool) (a : ℕ) → commitIf r y t a w ≡ none → y ≡ true
-    commit-stop true y a h = cc
-    commit-stop false true a h = refl
-    commit-stop false false a h = cc
-
     -- an ended set waits: its first member is young
-    set-stop : (z : ℤ) → endStep t w (some z) ≡ none → emptyAt t w (some z) ≡ false → count (λ e. isAbove (t .guid) n e) (w .held) ≡ 0 → Owed (t .guid) n m w
+    set-stop : (z : ℤ) → waits t z (w .held) ≡ true → emptyAt t w (some z) ≡ false → count (λ e. isAbove (t .guid) n e) (w .held) ≡ 0 → Owed (t .guid) n m w
     unfolding waits isMember inSet isAbove
-    set-stop z h e a =
-        let s : waits t z (w .held) ≡ true = finish-stop (waits t z (w .held)) z h in
+    set-stop z s e a =
         let is : Entry X → Bool = λ x. isMember (t .guid) z x in
         let i : any is (w .held) ≡ true = not-false _ (sym (ap (λ b. b && not (any is (w .held))) s) ∙ e) in
         let (x, f) = find-some is (w .held) (count-any is (w .held) i) in
@@ -101,44 +64,28 @@ module _ {X : Type 0} where
         omega (arith, find-count is (λ e. isOwed (t .guid) n m e) (w .held) x f (owes (t .guid) n m x g (ltb-false n (x .number) u) (fresh-since x y)))
 
     -- the lowest pending number waits: its first entry is young
-    head-stop : (o : Option ℕ) → Lowest (keep (λ e. ofGroup (t .guid) e) (w .pending)) o → headStep t w o ≡ none
-        → 1 ≤ count (λ e. isAt (t .guid) n e) (w .pending) → Owed (t .guid) n m w
+    head-stop : (a : ℕ) → next t (w .pending) ≡ some a → young t (find (λ e. isHead t a e) (w .pending)) ≡ true → 1 ≤ count (λ e. isAt (t .guid) n e) (w .pending) → Owed (t .guid) n m w
     unfolding isAt isHead
-    head-stop none l h p =
+    head-stop a l h p =
         let of : Entry X → Bool = λ e. ofGroup (t .guid) e in
-        let z : count of (w .pending) ≡ 0 = (unfold count in ap length l) in
-        omega (arith, count-imp (λ e. isAt (t .guid) n e) of (λ e k. and-left (of e) _ k) (w .pending))
-    head-stop (some a) l h p =
-        let of : Entry X → Bool = λ e. ofGroup (t .guid) e in
-        let k : (b : ℕ) → count (λ e. eqb b (e .number)) (keep of (w .pending)) ≡ count (λ e. isHead t b e) (w .pending) =
-        λ b. (unfold count in ap length (keep-keep (λ e. eqb b (e .number)) of (w .pending))) in
-        let (x, c, d) = taken (λ e. eqb n (e .number)) (λ e. leb a (e .number)) (keep of (w .pending)) (rw (k n) p) (l .0) in
-        let (y, f) = find-some (λ e. isHead t a e) (w .pending) (rw (k a) at (l .1)) in
+        let (x, c, d) = taken (λ e. isAt (t .guid) n e) (λ e. not (of e) || leb a (e .number)) (w .pending) p (next-lower t (w .pending) a l) in
+        let (y, f) = find-some (λ e. isHead t a e) (w .pending) (count-any (λ e. isHead t a e) (w .pending) (next-head t (w .pending) a l)) in
         let i : isHead t a y ≡ true = find-test (λ e. isHead t a e) (w .pending) y f in
-        let v : young t (some y) ≡ true =
-        ap (λ o. young t o) (sym f) ∙ commit-stop (ready t (w .committed) a (w .pending)) (young t (find (λ e. isHead t a e) (w .pending))) a h in
-        let u : y .number ≤ n = omega (arith, eqb-true n (x .number) c, leb-true a (x .number) d, eqb-true a (y .number) (and-right (of y) _ i)) in
-        omega (arith, find-count (λ e. isHead t a e) (λ e. isOwed (t .guid) n m e) (w .pending) y f (owes (t .guid) n m y (and-left (of y) _ i) u (fresh-since y v)))
+        let b : leb a (x .number) ≡ true = ap (λ o. not o || leb a (x .number)) (sym (and-left (of x) _ c)) ∙ d in
+        let u : y .number ≤ n = omega (arith, eqb-true n (x .number) (and-right (of x) _ c), leb-true a (x .number) b, eqb-true a (y .number) (and-right (of y) _ i)) in
+        omega (arith, find-count (λ e. isHead t a e) (λ e. isOwed (t .guid) n m e) (w .pending) y f (owes (t .guid) n m y (and-left (of y) _ i) u (fresh-since y (ap (λ o. young t o) (sym f) ∙ h))))
 
     stop : round t w ≡ none → emptyAt t w (lowestEnded (t .guid) (w .held)) ≡ false
         → 1 ≤ count (λ e. isAt (t .guid) n e) (w .pending) → count (λ e. isAbove (t .guid) n e) (w .held) ≡ 0 → Owed (t .guid) n m w
-    unfolding round next
-    stop r e p a = go (lowestEnded (t .guid) (w .held)) r e
+    unfolding isAt
+    stop r e p a = go (why-stopped t w r)
       where
-        go : (o : Option ℤ) → endStep t w o ≡ none → emptyAt t w o ≡ false → Owed (t .guid) n m w
-        go (some z) r e = set-stop z r e a
-        go none r e = head-stop (next t (w .pending)) (lowest (keep (λ e. ofGroup (t .guid) e) (w .pending))) r p
+        go : Stopped t w → Owed (t .guid) n m w
+        go (inl (z, l, s)) = set-stop z s (ap (λ o. emptyAt t w o) (sym l) ∙ e) a
+        go (inr (c, inl d)) = omega (arith, count-imp (λ e. isAt (t .guid) n e) (λ e. ofGroup (t .guid) e) (λ e k. and-left (ofGroup (t .guid) e) _ k) (w .pending), count-none (λ e. ofGroup (t .guid) e) (w .pending) (next-none t (w .pending) d))
+        go (inr (c, inr (b, d, f, y))) = head-stop b d y p
 
 -- ---- where a release stops
-
-less-other : (o : Ordering) → isLess o ≡ true → isEq o ≡ false
-less-other Ordering·lt h = refl
-less-other Ordering·eq h = sym h
-less-other Ordering·gt h = refl
-
-before-other : (a b : Guid) → before a b ≡ true → sameGuid a b ≡ false
-unfolding before sameGuid
-before-other a b h = less-other (compareGuid a b) h
 
 module _ {X : Type 0} where
   -- tests of a group's entries count alike where the group's entries are alike
@@ -168,7 +115,7 @@ module _ {X : Type 0} where
         let v : Work X = releaseGroup (t x) x w in
         let q : g ≡ x .guid = same-eq g (x .guid) s in
         let f = frame g t same gs v
-        (all-imp (λ y. before (x .guid) (y .guid)) (λ y. not (isGroup g y)) (λ y b. ap not (ap (λ z. sameGuid z (y .guid)) q ∙ before-other (x .guid) (y .guid) b)) gs a) in
+        (all-imp (λ y. before (x .guid) (y .guid)) (λ y. not (isGroup g y)) (λ y b. ap not (ap (λ z. sameGuid z (y .guid)) q ∙ before-not-same (x .guid) (y .guid) b)) gs a) in
         let p′ : 1 ≤ count (λ e. isAt g n e) (v .pending) = rw (grouped g (λ e. eqb n (e .number)) _ _ (f .0)) at p in
         let h′ : count (λ e. isAbove g n e) (v .held) ≡ 0 = rw (grouped g (λ e. ltb n (e .number)) _ _ (f .1)) at h in
         subst (λ d. 1 ≤ count (λ e. isAt d n e) (v .pending) → count (λ e. isAbove d n e) (v .held) ≡ 0 → Owed d n m v) (same x ∙ sym q)

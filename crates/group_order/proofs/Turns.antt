@@ -77,16 +77,16 @@ module _ {X : Type 0} where
   abbrev pub Stopped : Turn → Work X → Type 0
   Stopped t w = SetWaits t w ⊎ ((lowestEnded (t .guid) (w .held) ≡ none) × ((next t (w .pending) ≡ none) ⊎ HeadWaits t w))
 
-  why : (t : Turn) (w : Work X) (o : Option (Work X)) → Turned t w o → o ≡ none → Stopped t w
-  why t w o (finishes z c d) e = none-not-some o (finish t z w) e refl
-  why t w o (set-waits z c d) e = inl (z, c, d)
-  why t w o (nothing-next c d) e = inr (c, inl d)
-  why t w o (commits-ready n c d f) e = none-not-some o (commit t n 0 w) e refl
-  why t w o (commits-old n c d f y) e = none-not-some o (commit t n (n - suc (w .committed)) w) e refl
-  why t w o (head-waits n c d f y) e = inr (c, inr (n, d, f, y))
-
   pub why-stopped : (t : Turn) (w : Work X) → round t w ≡ none → Stopped t w
-  why-stopped t w e = why t w (round t w) (turned t w) e
+  why-stopped t w e = go (round t w) (turned t w) e
+    where
+      go : (o : Option (Work X)) → Turned t w o → o ≡ none → Stopped t w
+      go o (finishes z c d) e = none-not-some o (finish t z w) e refl
+      go o (set-waits z c d) e = inl (z, c, d)
+      go o (nothing-next c d) e = inr (c, inl d)
+      go o (commits-ready n c d f) e = none-not-some o (commit t n 0 w) e refl
+      go o (commits-old n c d f y) e = none-not-some o (commit t n (n - suc (w .committed)) w) e refl
+      go o (head-waits n c d f y) e = inr (c, inr (n, d, f, y))
 
 -- ---- what every step keeps
 
@@ -102,22 +102,19 @@ module _ {X : Type 0} (P : Work X → Type 0) where
   rounds-keep t f (suc k) w h = (elim (round t w) as (λ o. round t w ≡ o → P (orStop (λ v. rounds k t v) w o)) [ none ↦ λ e. h | some v ↦ λ e. rounds-keep t f k v (f w v e h) ]) refl
 
   -- a round finishes a set or commits a number
-  turns-keep : (t : Turn) (w v : Work X) (o : Option (Work X)) → Turned t w o → o ≡ some v
-      → ((z : ℤ) → lowestEnded (t .guid) (w .held) ≡ some z → P (finish t z w))
-      → ((n k : ℕ) → lowestEnded (t .guid) (w .held) ≡ none → next t (w .pending) ≡ some n → P (commit t n k w))
-      → P v
-  turns-keep t w v o (finishes z c d) e f g = let i : finish t z w ≡ v = cc in subst P i (f z c)
-  turns-keep t w v o (set-waits z c d) e f g = none-not-some o v refl e
-  turns-keep t w v o (nothing-next c d) e f g = none-not-some o v refl e
-  turns-keep t w v o (commits-ready n c d r) e f g = let i : commit t n 0 w ≡ v = cc in subst P i (g n 0 c d)
-  turns-keep t w v o (commits-old n c d r y) e f g = let i : commit t n (n - suc (w .committed)) w ≡ v = cc in subst P i (g n (n - suc (w .committed)) c d)
-  turns-keep t w v o (head-waits n c d r y) e f g = none-not-some o v refl e
-
   pub round-keeps : (t : Turn) (w v : Work X) → round t w ≡ some v
       → ((z : ℤ) → lowestEnded (t .guid) (w .held) ≡ some z → P (finish t z w))
       → ((n k : ℕ) → lowestEnded (t .guid) (w .held) ≡ none → next t (w .pending) ≡ some n → P (commit t n k w))
       → P v
-  round-keeps t w v e f g = turns-keep t w v (round t w) (turned t w) e f g
+  round-keeps t w v e f g = go (round t w) (turned t w) e
+    where
+      go : (o : Option (Work X)) → Turned t w o → o ≡ some v → P v
+      go o (finishes z c d) e = let i : finish t z w ≡ v = cc in subst P i (f z c)
+      go o (set-waits z c d) e = none-not-some o v refl e
+      go o (nothing-next c d) e = none-not-some o v refl e
+      go o (commits-ready n c d r) e = let i : commit t n 0 w ≡ v = cc in subst P i (g n 0 c d)
+      go o (commits-old n c d r y) e = let i : commit t n (n - suc (w .committed)) w ≡ v = cc in subst P i (g n (n - suc (w .committed)) c d)
+      go o (head-waits n c d r y) e = none-not-some o v refl e
 
 -- the work when number n has left pending and nothing of it is committed yet
 abbrev pub taken : {X : Type 0} → Turn → ℕ → ℕ → Work X → Work X
