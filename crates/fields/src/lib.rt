@@ -67,9 +67,9 @@ pub fn field_count(line: &[u8]) -> usize
 pub fn only_byte(line: &[u8], k: usize) -> u8
     ensures { λ r. ⌜ r ≡ only (fieldAt k (now (line .entry))) ⌝ }
 {
-    let s = span(line, k);
-    if s.len() == 1 {
-        return s[0];
+    let field = span(line, k);
+    if field.len() == 1 {
+        return field[0];
     }
     0
 }
@@ -77,8 +77,8 @@ pub fn only_byte(line: &[u8], k: usize) -> u8
 pub fn long_at(line: &[u8], k: usize) -> Long
     ensures { λ r. ⌜ told (r .ok) (r .value) ≡ long k (now (line .entry)) ⌝ }
 {
-    let s = span(line, k);
-    let read = read_unsigned(s);
+    let digits = span(line, k);
+    let read = read_unsigned(digits);
     match read {
         Unsigned::Value(value) => Long { ok: true, value },
         Unsigned::Bad => Long {

@@ -1,21 +1,17 @@
 -- A release only lets the counts grow, so that what a turn reports, added to the counts before it, gives those after it.
-use Prim.Native.Nat.{ℕ, zero, suc, _+_, _-_, _^_, _≤_}
+use Prim.Native.Nat.{ℕ, _+_, _-_, _^_, _≤_}
 use mathlib.Core.Path.{_≡_, sym, subst, ap, _∙_}
-use mathlib.Core.Bool.{true, false, not}
 use mathlib.Core.List.{List, [], _∷_}
 use mathlib.Core.Option.{Option, some, none}
 use native.Mathlib.Omega.{arith}
 use lib.IntN.{ℤ}
 use lib.ListN.{length}
-use Rattle.group_order.specs.Lists.{keep}
-use Rattle.group_order.specs.Guid.{Guid}
 use Rattle.group_order.specs.Entry.{What, sample, setEnd, Entry}
-use Rattle.group_order.specs.State.{State, Group, Counts, plus}
-use Rattle.group_order.specs.Sets.{membersOf, whole, lowestStale}
-use Rattle.group_order.specs.Commit.{Turn, isHead, headOf}
-use Rattle.group_order.specs.Release.{Work, View, skip, discards, discard, handOut, finishIf, finish, discardOr, discardStale, withHeld, withOut, settle, commitOne, commitAll, commit, rounds, enough, turnOf, atGroup, releaseGroup, releaseAll, workOf, backTo, released, releaseRefusal, releasedIf, release}
+use Rattle.group_order.specs.State.{State, Counts, plus}
+use Rattle.group_order.specs.Sets.{membersOf}
+use Rattle.group_order.specs.Release.{Work, View, skip, discards, discard, handOut, withHeld, withOut, settle, atGroup, workOf, backTo, release}
 use Rattle.group_order.specs.Run.{releases, step, run}
-use Rattle.group_order.proofs.Turns.{rounds-keep, round-keeps}
+use Rattle.group_order.proofs.Stays.{Stays, released-stays, release-cases}
 use Rattle.presentation.specs.Turn.{Row, rowsCalls, since, turnTo, AsCalls}
 use Rattle.presentation.specs.Turn as T
 use Rattle.presentation.proofs.TurnLaws.{run-append, applied-run, applied-quiet, counts-quiet, turn-calls}
@@ -55,54 +51,29 @@ module _ (b : Counts) where
   skip-up k c h = record { skipped = plus-within (b .skipped) (c .skipped) k (h .skipped); incomplete = h .incomplete; discarded = h .discarded; late = h .late }
 
 module _ {X : Type 0} (b : Counts) where
-  abbrev Up : Work X → Type 0
-  Up w = Grown b (w .counts)
-
-  discard-up : (g : Guid) (z : ℤ) (w : Work X) → Up w → Up (discard g z w)
-  unfolding discard
-  discard-up g z w h = discards-up b (length (membersOf g z (w .held))) (w .counts) h
-
-  stale-up : (k : ℕ) (e : Entry X) (w : Work X) → Up w → Up (discardStale k e w)
-  unfolding discardStale
-  stale-up zero e w h = h
-  stale-up (suc k) e w h = elim (lowestStale e (w .held)) as (λ o. Up (discardOr (λ v. discardStale k e v) (e .group) w o)) [ none ↦ h | some z ↦ stale-up k e (discard (e .group) z w) (discard-up (e .group) z w h) ]
-
-  settle-up : (e : Entry X) (w : Work X) (x : What X) (z : Option ℤ) → Up w → Up (settle e w x z)
+  settle-up : (e : Entry X) (w : Work X) (x : What X) (z : Option ℤ) → Grown b (w .counts) → Grown b (settle e w x z .counts)
   unfolding withOut withHeld
   settle-up e w (sample x) none h = h
   settle-up e w (sample x) (some z) h = h
   settle-up e w (setEnd f o) none h = h
   settle-up e w (setEnd f o) (some z) h = h
 
-  commitAll-up : (l : List (Entry X)) (w : Work X) → Up w → Up (commitAll l w)
-  unfolding commitAll commitOne
-  commitAll-up [] w h = h
-  commitAll-up (e ∷ l) w h = commitAll-up l (commitOne e w) (settle-up e (discardStale (length (w .held)) e w) (e .what) (e .set) (stale-up (length (w .held)) e w h))
-
-  commit-up : (t : Turn) (n k : ℕ) (w : Work X) → Up w → Up (commit t n k w)
-  unfolding commit
-  commit-up t n k w h =
-      commitAll-up (headOf t n (w .pending)) (record { committed = n; pending = keep (λ e. not (isHead t n e)) (w .pending); held = w .held; out = w .out; lost = w .lost; counts = skip k (w .counts) }) (skip-up b k (w .counts) h)
-
-  finish-up : (t : Turn) (z : ℤ) (w : Work X) → Up w → Up (finish t z w)
-  unfolding finish handOut
-  finish-up t z w h = elim (whole (t .guid) z (t .counted) (w .held)) as (λ o. Up (finishIf o (t .guid) z w)) [ true ↦ h | false ↦ discard-up (t .guid) z w h ]
-
-  rounds-up : (t : Turn) (k : ℕ) (w : Work X) → Up w → Up (rounds k t w)
-  rounds-up t = rounds-keep Up t (λ w v e h. round-keeps Up t w v e (λ z d. finish-up t z w h) (λ n k c d. commit-up t n k w h))
-
-  releaseAll-up : (t : Group → Turn) (gs : List Group) (w : Work X) → Up w → Up (releaseAll t gs w .1)
-  unfolding releaseAll releaseGroup atGroup
-  releaseAll-up t [] w h = h
-  releaseAll-up t (g ∷ gs) w h = releaseAll-up t gs (releaseGroup (t g) g w) (rounds-up (t g) (enough w) (atGroup g w) h)
+  up : Stays {X = X} (λ l w. Grown b (w .counts))
+  unfolding discard handOut atGroup
+  up = record {
+    at-turn = λ t. record {
+      at-discard = λ l z w h. discards-up b (length (membersOf (t .guid) z (w .held))) (w .counts) h;
+      at-hand-out = λ z w h. h;
+      at-settle = λ e l w x y i o h. settle-up e w x y h;
+      at-taken = λ n k w d h. skip-up b k (w .counts) h;
+    };
+    at-group = λ g w h. h;
+  }
 
 module _ {X : Type 0} where
   pub release-grows : (s : State X) (v : View) (now room : ℕ) → Small (s .counts) → Grown (s .counts) (release s v now room .1 .counts)
-  unfolding release released backTo workOf
-  release-grows s v now room h = elim (releaseRefusal s v room) as (λ o. Grown (s .counts) (releasedIf o s v now .1 .counts)) [
-    | some n ↦ h
-    | none ↦ releaseAll-up (s .counts) (λ g. turnOf v now (s .timeout) (s .writers) g) (s .groups) (workOf s) h
-  ]
+  unfolding backTo workOf
+  release-grows s v now room h = release-cases (λ r t. Grown (s .counts) (t .counts)) s v now room h (released-stays (λ l w. Grown (s .counts) (w .counts)) (up (s .counts)) s v now h)
 
 -- ---- what a turn reports
 
