@@ -19,7 +19,7 @@ use Rattle.group_view.proofs.Table.{all-rows}
 use Rattle.history.specs.Store.{tag, optional, rowOf, rowsIn, rowsOf, staged, stateOf}
 use Rattle.calls.specs.Run.{itemW, sampleText, samplesText}
 use Rattle.calls.specs.Said.{placeText, placesText}
-use Rattle.calls.proofs.Running.{low-long}
+use Rattle.decimal.proofs.Lengths.{printed-low}
 
 -- a sample whose place does not hold its reader in a byte and its item in 32 bits
 unfoldable pub wideW : ℕ → What ℕ → Bool
@@ -79,7 +79,7 @@ place-text r (sample i) s h =
     let x : (r * 2 ^ 32 + i) / 2 ^ 32 ≡ r = omega (arith, b) in
     let y : (r * 2 ^ 32 + i) % 2 ^ 32 ≡ i = omega (arith, b) in (
       rw (x, y),
-      omega (arith, length-append (32 ∷ digitsOf r) (58 ∷ digitsOf i), low-long 2 r (omega (arith, a)), low-long 9 i (omega (arith, b))),
+      omega (arith, length-append (32 ∷ digitsOf r) (58 ∷ digitsOf i), printed-low 2 r (omega (arith, a)), printed-low 9 i (omega (arith, b))),
     )
 
 pub places-text : (l : List (Entry ℕ)) → all (λ e. isSample e) l ≡ true → all (λ e. not (wide e)) l ≡ true

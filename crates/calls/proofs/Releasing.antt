@@ -27,7 +27,8 @@ use Rattle.calls.specs.Run.{Calls, rowsOf, refusedText, samplesText, cou
 use Rattle.calls.specs.Said.{Said, placesText}
 use Rattle.calls.specs.Runs.{StandRows, Stands, Ran}
 use Rattle.calls.proofs.Standing.{every-stands, history-stands}
-use Rattle.calls.proofs.Running.{ran-said, number-long, refused-long}
+use Rattle.decimal.proofs.Lengths.{printed-long}
+use Rattle.calls.proofs.Running.{ran-said, refused-long}
 use Rattle.calls.proofs.Places.{wide, out-narrow, places-text}
 
 -- what a release says: its count, the state, the lent list
@@ -76,7 +77,7 @@ counts-long c =
     let b : List ℕ = 32 ∷ digitsOf (c .incomplete) in
     let d : List ℕ = 32 ∷ digitsOf (c .discarded) in
     let e : List ℕ = 32 ∷ digitsOf (c .late) in
-    omega (arith, length-append (a ++ b ++ d) e, length-append (a ++ b) d, length-append a b, number-long (c .skipped), number-long (c .incomplete), number-long (c .discarded), number-long (c .late))
+    omega (arith, length-append (a ++ b ++ d) e, length-append (a ++ b) d, length-append a b, printed-long (c .skipped), printed-long (c .incomplete), printed-long (c .discarded), printed-long (c .late))
 
 -- an answered release: its count, its places and what is printed of them
 module _ (l : List ℕ) {n : ℕ} {t : State ℕ} {places : List ℕ} (k : length places ≡ 256) where

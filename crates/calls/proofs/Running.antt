@@ -1,16 +1,14 @@
 -- Laws of a line run on the lent words.
 use Prim.{Unit, tt}
-use Prim.Native.Nat.{ℕ, zero, suc, _+_, _/_, _%_, _^_, _≤_, _<_}
+use Prim.Native.Nat.{ℕ, _≤_}
 use mathlib.Core.Path.{_≡_, refl, sym, ap, _∙_, subst}
-use mathlib.Core.Bool.{Bool, true, false}
-use mathlib.Core.List.{List, [], _∷_}
+use mathlib.Core.List.{List}
 use mathlib.Core.Option.{Option, none, some}
 use native.Mathlib.Omega.{arith}
-use borrow.Author.Tests.{lt-ltb}
-use lib.Dec.{ltb}
-use lib.ListN.{length, length-append}
+use lib.ListN.{length}
 use Rattle.coherent_set.specs.Answer.{Answer, refused, answered}
-use Rattle.decimal.specs.Print.{oneOr, digitsIn, digitsOf, put}
+use Rattle.decimal.specs.Print.{put}
+use Rattle.decimal.proofs.Lengths.{printed-long}
 use Rattle.group_order.specs.State.{State, fresh}
 use Rattle.group_order.specs.Offer.{Fate, isStored, isJoined, isLate}
 use Rattle.group_view.specs.View.{pairAs, digestRowAs, Cleared, Noted, NotedDigest}
@@ -26,39 +24,9 @@ use Rattle.calls.proofs.Standing.{afresh-stands, history-stands, counte
 
 -- ---- how long a text is
 
-one-long : (t : Bool) (n m : ℕ) (ds : List ℕ) → length ds ≤ m → length (oneOr t n ds) ≤ suc m
-unfolding oneOr
-one-long true n m ds h = omega arith
-one-long false n m ds h = omega (arith, length-append ds ((48 + n % 10) ∷ []))
-
--- n's digits by k are at most k + 1
-digits-most : (k n : ℕ) → length (digitsIn k n) ≤ suc k
-unfolding digitsIn
-digits-most zero n = omega arith
-digits-most (suc k) n = one-long (ltb n 10) n (suc k) (digitsIn k (n / 10)) (digits-most k (n / 10))
-
-one-digit : (n k : ℕ) → n < 10 → length (digitsIn (suc k) n) ≤ 1
-unfolding digitsIn oneOr
-one-digit n k h = rw (lt-ltb n 10 h) (omega arith)
-
--- a number below 10^(j + 1) has at most j + 1 digits
-digits-long : (j k n : ℕ) → n < 10 ^ suc j → length (digitsIn k n) ≤ suc j
-unfolding digitsIn
-digits-long j zero n h = omega arith
-digits-long zero (suc k) n h = one-digit n k (omega arith)
-digits-long (suc j) (suc k) n h = one-long (ltb n 10) n (suc j) (digitsIn k (n / 10)) (digits-long j k (n / 10) (omega arith))
-
-pub number-long : (n : ℕ) → length (digitsOf n) ≤ 20
-unfolding digitsOf
-number-long n = digits-most 19 n
-
-pub low-long : (j n : ℕ) → n < 10 ^ suc j → length (digitsOf n) ≤ suc j
-unfolding digitsOf
-low-long j n h = digits-long j 19 n h
-
 pub refused-long : (n : ℕ) → length (refusedText n) ≤ 28
 unfolding refusedText
-refused-long n = omega (arith, number-long n)
+refused-long n = omega (arith, printed-long n)
 
 pub offer-long : (a : Answer Fate) → length (offerText a) ≤ 28
 offer-long (refused n) = refused-long n

@@ -1,14 +1,15 @@
--- A field that spells a number is short: at most 20 digits, and a sign.
-use Prim.Native.Nat.{ℕ, zero, suc, _+_, _-_, _*_, _^_, _≤_, _<_}
+-- How long numbers are: a field that spells one has at most 20 digits and a sign, and so has one that is printed.
+use Prim.Native.Nat.{ℕ, zero, suc, _+_, _-_, _*_, _/_, _%_, _^_, _≤_, _<_}
 use mathlib.Core.Path.{_≡_, refl, ap}
 use mathlib.Core.Bool.{Bool, true, false, not, _&&_}
-use mathlib.Core.List.{List, [], _∷_}
+use mathlib.Core.List.{List, [], _∷_, _++_}
 use mathlib.Core.Option.{none}
 use native.Mathlib.Omega.{arith}
-use borrow.Author.Tests.{eqb-false, leb-true}
-use lib.Dec.{eqb, leb}
-use lib.ListN.{length, getD, drop, length-drop}
+use borrow.Author.Tests.{eqb-false, leb-true, lt-ltb}
+use lib.Dec.{eqb, leb, ltb}
+use lib.ListN.{length, getD, drop, length-drop, length-append}
 use Rattle.decimal.specs.Read.{given, isDigit, readOn, plain, atMost, readNumber, readUnsigned, plus, minus, readSignedBy, readSigned}
+use Rattle.decimal.specs.Print.{oneOr, digitsIn, digitsOf}
 use Rattle.decimal.proofs.Reading.{given-none, read-above}
 
 -- p with k zeros behind it
@@ -52,3 +53,35 @@ signed-long s l = (elim (eqb (getD s 0 0) 45)
       | true ↦ ap (λ r. minus r) (number-long (2 ^ 63) (drop 1 s) (omega arith) (omega (arith, length-drop 1 s)))
       | false ↦ ap (λ r. plus r) (number-long (2 ^ 63 - 1) s (omega arith) (omega arith))
     ])
+
+-- ---- printed
+
+one-long : (t : Bool) (n m : ℕ) (ds : List ℕ) → length ds ≤ m → length (oneOr t n ds) ≤ suc m
+unfolding oneOr
+one-long true n m ds h = omega arith
+one-long false n m ds h = omega (arith, length-append ds ((48 + n % 10) ∷ []))
+
+-- n's digits by k are at most k + 1
+digits-most : (k n : ℕ) → length (digitsIn k n) ≤ suc k
+unfolding digitsIn
+digits-most zero n = omega arith
+digits-most (suc k) n = one-long (ltb n 10) n (suc k) (digitsIn k (n / 10)) (digits-most k (n / 10))
+
+one-digit : (n k : ℕ) → n < 10 → length (digitsIn (suc k) n) ≤ 1
+unfolding digitsIn oneOr
+one-digit n k h = rw (lt-ltb n 10 h) (omega arith)
+
+-- a number below 10^(j + 1) has at most j + 1 digits
+digits-long : (j k n : ℕ) → n < 10 ^ suc j → length (digitsIn k n) ≤ suc j
+unfolding digitsIn
+digits-long j zero n h = omega arith
+digits-long zero (suc k) n h = one-digit n k (omega arith)
+digits-long (suc j) (suc k) n h = one-long (ltb n 10) n (suc j) (digitsIn k (n / 10)) (digits-long j k (n / 10) (omega arith))
+
+pub printed-long : (n : ℕ) → length (digitsOf n) ≤ 20
+unfolding digitsOf
+printed-long n = digits-most 19 n
+
+pub printed-low : (j n : ℕ) → n < 10 ^ suc j → length (digitsOf n) ≤ suc j
+unfolding digitsOf
+printed-low j n h = digits-long j 19 n h

@@ -57,15 +57,15 @@ module _ (ds t : List ℕ) (i : ℕ) (h : i < length t) where
 
 -- ---- a signed number's digits by its 64 bits
 
-pub digits-below : (x : ℤ) → SFits w64 x → ltZ (toZ w64 (ofZ w64 x)) (pos 0) ≡ true → (signedDigits x ≡ 45 ∷ digitsOf (2 ^ 64 - 1 - ofZ w64 x + 1)) × (0 < ofZ w64 x)
+pub negative-digits : (x : ℤ) → SFits w64 x → ltZ (toZ w64 (ofZ w64 x)) (pos 0) ≡ true → (signedDigits x ≡ 45 ∷ digitsOf (2 ^ 64 - 1 - ofZ w64 x + 1)) × (0 < ofZ w64 x)
 unfolding signedDigits
-digits-below (pos n) f h = absurd (let k : n < 0 = ltb-true n 0 (rw (toZ-ofZ w64 (pos n) f) at h) in omega arith)
-digits-below (negsuc n) f h =
+negative-digits (pos n) f h = absurd (let k : n < 0 = ltb-true n 0 (rw (toZ-ofZ w64 (pos n) f) at h) in omega arith)
+negative-digits (negsuc n) f h =
     let b : n < 2 ^ 63 = f .sfits in
     let e : suc n ≡ 2 ^ 64 - 1 - (2 ^ 64 - suc n) + 1 = omega arith in
     (ap (λ (m : ℕ). 45 ∷ digitsOf m) e, omega arith)
 
-pub digits-above : (x : ℤ) → SFits w64 x → ltZ (toZ w64 (ofZ w64 x)) (pos 0) ≡ false → signedDigits x ≡ digitsOf (ofZ w64 x)
+pub positive-digits : (x : ℤ) → SFits w64 x → ltZ (toZ w64 (ofZ w64 x)) (pos 0) ≡ false → signedDigits x ≡ digitsOf (ofZ w64 x)
 unfolding signedDigits
-digits-above (pos n) f h = refl
-digits-above (negsuc n) f h = absurd (true≢false (rw (toZ-ofZ w64 (negsuc n) f) at h))
+positive-digits (pos n) f h = refl
+positive-digits (negsuc n) f h = absurd (true≢false (rw (toZ-ofZ w64 (negsuc n) f) at h))

@@ -8,7 +8,7 @@ use mir.Val.{ofZ}
 use mir.ValLaws.{toZ-ofZ}
 use borrow.Author.Needs.{needs}
 use Rattle.decimal.specs.Print.{digitsOf, put}
-use Rattle.decimal.proofs.Printing.{digits-below, digits-above}
+use Rattle.decimal.proofs.Printing.{negative-digits, positive-digits}
 use Rattle.decimal.proofs.Putting.{puts}
 use Rattle.decimal.proofs.put_signed.Statement.{statement}
 use Rattle.decimal.proofs.put_signed.Tie as tie
@@ -26,7 +26,7 @@ add-put-unsigned : tie.Need-add-put-unsigned
 add-put-unsigned c =
     let k = c .before .before .before .before .before .before .before .before .before in
     let e : c .before .before .before .before .before .before .before .bits-of .result ≡ ofZ w64 (k .args .x) = c .before .before .before .before .before .before .before .bits-of .ensures ∙ ap (λ z. ofZ w64 z) (toZ-ofZ w64 (k .args .x) (k .fits .x)) in
-    omega (arith, e, digits-below (k .args .x) (k .fits .x) (c .before .before .before .before .before .before .if1 .taken) .1)
+    omega (arith, e, negative-digits (k .args .x) (k .fits .x) (c .before .before .before .before .before .before .if1 .taken) .1)
 
 put-unsigned-requires : tie.Need-put-unsigned-requires
 put-unsigned-requires c κs = search needs
@@ -38,7 +38,7 @@ returns : tie.Need-returns
 returns c =
     let k = c .before .before .before .before .before .before .before .before .before .before .before .before in
     let e : c .before .before .before .before .before .before .before .before .before .before .bits-of .result ≡ ofZ w64 (k .args .x) = c .before .before .before .before .before .before .before .before .before .before .bits-of .ensures ∙ ap (λ z. ofZ w64 z) (toZ-ofZ w64 (k .args .x) (k .fits .x)) in
-    let d = ap (λ (b : ℕ). 45 ∷ digitsOf (2 ^ 64 - 1 - b + 1)) e ∙ sym (digits-below (k .args .x) (k .fits .x) (c .before .before .before .before .before .before .before .before .before .if1 .taken) .0) in
+    let d = ap (λ (b : ℕ). 45 ∷ digitsOf (2 ^ 64 - 1 - b + 1)) e ∙ sym (negative-digits (k .args .x) (k .fits .x) (c .before .before .before .before .before .before .before .before .before .if1 .taken) .0) in
     puts (k .args .out .now) (k .args .at) (45 ∷ []) (digitsOf (2 ^ 64 - 1 - c .before .before .before .before .before .before .before .before .before .before .bits-of .result + 1)) (c .before .before .before .before .before .before .put-bytes .ensures) (c .before .before .put-unsigned .ensures)
     ∙ ap (λ (l : List ℕ). put (k .args .out .now) (k .args .at) l) d
 
@@ -53,7 +53,7 @@ returns-2 c =
     let k = c .before .before .before .before .before .before .before in
     let e : c .before .before .before .before .before .bits-of .result ≡ ofZ w64 (k .args .x) = c .before .before .before .before .before .bits-of .ensures ∙ ap (λ z. ofZ w64 z) (toZ-ofZ w64 (k .args .x) (k .fits .x)) in
     c .before .before .put-unsigned2 .ensures
-    ∙ ap (λ (l : List ℕ). put (k .args .out .now) (k .args .at) l) (ap (λ (b : ℕ). digitsOf b) e ∙ sym (digits-above (k .args .x) (k .fits .x) (c .before .before .before .before .if1 .left)))
+    ∙ ap (λ (l : List ℕ). put (k .args .out .now) (k .args .at) l) (ap (λ (b : ℕ). digitsOf b) e ∙ sym (positive-digits (k .args .x) (k .fits .x) (c .before .before .before .before .if1 .left)))
 
 pub put-signed-spec : {M : Type 1} → statement M
 put-signed-spec =
