@@ -32,6 +32,8 @@ use fields::long_at;
 use fields::number_at;
 use fields::only_byte;
 use fields::word_at;
+use hex::put_hex;
+use hex::read_hex;
 use libc::STDOUT_FILENO;
 use line_input::next_line;
 
@@ -93,87 +95,34 @@ fn say_signed(scopes: Scopes, x: i64, out: &mut Out) -> Answer {
     end_answer(scopes, out, at)
 }
 
-// The digit of n's low half.
-fn hex_digit(n: u8) -> u8 {
-    let digits = b"0123456789abcdef";
-    digits[(n % 16) as usize]
-}
-
-// The digit's value, 16 where it is none.
-fn hex_value(digit: u8) -> u8 {
-    if b'0' <= digit && digit <= b'9' {
-        return digit - b'0';
-    }
-    if b'a' <= digit && digit <= b'f' {
-        return digit - b'a' + 10;
-    }
-    16
-}
-
-fn put_byte(out: &mut Out, at: usize, b: u8) -> usize {
-    let pair = [hex_digit(b / 16), hex_digit(b)];
-    put_bytes(out, at, &pair)
-}
-
-fn put_hex(out: &mut Out, bytes: &[u8]) -> usize {
-    let mut at: usize = 0;
-    let mut i: usize = 0;
-    while i < bytes.len() {
-        at = put_byte(out, at, bytes[i]);
-        i += 1;
-    }
-    at
-}
-
-// Fills bytes with what text spells, two hex digits each, and answers whether it spells some.
-fn read_hex(text: &[u8], bytes: &mut [u8; 128]) -> bool {
-    if text.len() == 0 || text.len() % 2 != 0 {
-        return false;
-    }
-    if 256 < text.len() {
-        return false; // longer than a field can be
-    }
-    let mut i: usize = 0;
-    while i < text.len() / 2 {
-        let high = hex_value(text[2 * i]);
-        let low = hex_value(text[2 * i + 1]);
-        if 15 < high {
-            return false;
-        }
-        if 15 < low {
-            return false;
-        }
-        bytes[i] = high * 16 + low;
-        i += 1;
-    }
-    true
-}
-
 fn encode(scopes: Scopes, number: i64, out: &mut Out) -> Answer {
     let bytes = CoherentSetMarker::new(number).to_wire_bytes();
-    let at = put_hex(out, &bytes);
+    let at = put_hex(out, 0, &bytes);
     end_answer(scopes, out, at)
 }
 
 fn decode(scopes: Scopes, field: &[u8], out: &mut Out) -> Answer {
-    let mut bytes = [0u8; 128];
     if field.len() == 1 && field[0] == b'-' {
-        return decode_bytes(scopes, &bytes, 0, out);
+        return decode_bytes(scopes, b"", out);
     }
-    let is_hex = read_hex(field, &mut bytes);
-    if !is_hex {
-        return say_bad(scopes, out);
+    let n = field.len() / 2;
+    if n == 0 || 128 < n {
+        return say_bad(scopes, out); // no byte, or more than a line has room for
     }
-    decode_bytes(scopes, &bytes, field.len() / 2, out)
+    let mut bytes = [0u8; 128];
+    decode_hex(scopes, field, &mut bytes[0..n], out)
 }
 
-// Decodes the first `count` bytes.
-fn decode_bytes(scopes: Scopes, bytes: &[u8; 128], count: usize, out: &mut Out) -> Answer {
-    let all: &[u8] = bytes;
-    if all.len() < count {
-        return say_bad(scopes, out);
+// Decodes what field spells, with room for it in bytes.
+fn decode_hex(scopes: Scopes, field: &[u8], bytes: &mut [u8], out: &mut Out) -> Answer {
+    if read_hex(field, bytes) {
+        return decode_bytes(scopes, bytes, out);
     }
-    let decoded = CoherentSetMarker::from_wire_bytes(&all[0..count]);
+    say_bad(scopes, out)
+}
+
+fn decode_bytes(scopes: Scopes, bytes: &[u8], out: &mut Out) -> Answer {
+    let decoded = CoherentSetMarker::from_wire_bytes(bytes);
     match decoded {
         Decoded::Marker(marker) => say_signed(scopes, marker.set_first_sn, out),
         Decoded::NotEightBytes => say(scopes, b"refused 11\n", out),
