@@ -1,11 +1,11 @@
 -- A line of the call list and what it spells (document 01, "One call list, whole").
-use Prim.Native.Nat.{ℕ, _-_, _^_}
+use Prim.Native.Nat.{ℕ}
 use mathlib.Core.Bool.{cond}
 use mathlib.Core.List.{List, [], _∷_, _++_}
 use mathlib.Core.Option.{Option, none, some}
 use lib.Dec.{eqb}
 use lib.IntN.{ℤ}
-use lib.ListN.{length, getD, replicate}
+use lib.ListN.{length, replicate}
 use Rattle.fields.specs.Fields.{fieldsOf, fieldAt, only, byte, word, long, number}
 use Rattle.group_order.specs.Guid.{Guid}
 use Rattle.group_order.specs.Entry.{What, sample, setEnd}

@@ -4,7 +4,7 @@ use mathlib.Core.Path.{_≡_}
 use mathlib.Core.List.{List, [], _∷_, _++_}
 use Rattle.decimal.specs.Print.{digitsOf, put}
 
--- s is put into out from `at` on, and r is the place behind it
+-- s is put into out from `at` on, as far as there is room, and r is the place behind it
 pub record Said (at : ℕ) (s : List ℕ) (r : ℕ) (out out′ : List ℕ) : Type 0 where
   pub is : (r, out′) ≡ put out at s
 

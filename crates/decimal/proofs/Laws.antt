@@ -1,16 +1,15 @@
 -- What is printed is read back; examples of the definitions.
 use Prim.Native.Nat.{ℕ, zero, suc, _+_, _-_, _*_, _/_, _%_, _^_, _≤_, _<_}
-use mathlib.Core.Path.{_≡_, refl, sym, ap, _∙_}
+use mathlib.Core.Path.{_≡_, refl, ap, _∙_}
 use mathlib.Core.Bool.{Bool, true, false}
-use mathlib.Core.List.{List, [], _∷_, _++_, append-assoc}
+use mathlib.Core.List.{List, [], _∷_, _++_}
 use mathlib.Core.Option.{Option, none, some}
 use native.Mathlib.Nat.{div-add-mod'}
 use native.Mathlib.Omega.{arith}
 use borrow.Author.Tests.{ltb-true, ltb-false, le-leb, ne-eqb}
 use lib.Dec.{ltb}
 use lib.IntN.{negsuc}
-use lib.ListN.{length, getD, drop, length-append}
-use lib.Seq.{paste, take-length, length-paste, take-paste, drop-paste, drop-drop}
+use lib.ListN.{getD}
 use Rattle.decimal.specs.Read.{given, isDigit, readOn, plain, readNumber, atMost, readUnsigned, minus, readSignedBy, readSigned}
 use Rattle.decimal.specs.Print.{oneOr, digitsIn, digitsOf}
 
