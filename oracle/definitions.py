@@ -1,14 +1,20 @@
 #!/usr/bin/env python3
-"""Runs random call lists through the history's definitions and holds what they print to the Rust's answers.
+"""Runs random call lists through the history's definitions, or the model of the source, and holds what they print to the Rust's answers.
 
-    python3 oracle/definitions.py SEED COUNT      from the repository's root, with oracle/ built (cargo build --release)
+    python3 oracle/definitions.py SEED COUNT [rules|source_model]      from the repository's root, with oracle/ built (cargo build --release)
 
-The definitions compute, so each list becomes an equation that the checker decides by computing: target/definitions/ gets a
-copy of the crates with one more file of proofs, and `rt check group_order` there must pass.
+Both compute, so each list becomes an equation that the checker decides by computing: target/definitions/ gets a copy of the
+crates with one more file of proofs, and `rt check` of the crate there must pass.
 """
 import os, random, shutil, subprocess, sys
 
 CALL_LIST = "oracle/target/release/call-list"
+
+# the file of proofs that has `prints`, up to the line that stands behind it; and the crates beneath
+PRINTS = {
+    "rules": ("Figures", "-- the writer after a heartbeat 4..6", ["laws", "coherent_set", "guids"]),
+    "source_model": ("Worked", "-- document 01's list", ["laws", "coherent_set", "guids", "rules"]),
+}
 
 
 def whole(n):
@@ -85,20 +91,23 @@ def line_term(answer):
 
 
 def main():
-    seed, count = int(sys.argv[1]), int(sys.argv[2])
+    seed, count, crate = int(sys.argv[1]), int(sys.argv[2]), (sys.argv + ["rules"])[3]
+    file, behind, beneath = PRINTS[crate]
     rnd = random.Random(seed)
     lists = [one_list(rnd) for _ in range(count)]
     asked = "".join(line + "\n" for _, lines, _ in lists for line in lines)
     answers = iter(subprocess.run([CALL_LIST], input=asked.encode(), capture_output=True, check=True).stdout.decode().splitlines())
     place = "target/definitions"
     shutil.rmtree(place, ignore_errors=True)
-    for crate in ("coherent_set", "group_order"):
-        shutil.copytree(f"crates/{crate}", f"{place}/crates/{crate}", ignore=shutil.ignore_patterns("must-fail"))
+    with open("crates.txt") as f:
+        known = [line for line in f if line.split(":")[0] in beneath + [crate]]
+    for name in beneath + [crate]:
+        shutil.copytree(f"crates/{name}", f"{place}/crates/{name}", ignore=shutil.ignore_patterns("must-fail"))
     with open(f"{place}/crates.txt", "w") as f:
-        f.write("coherent_set:\ngroup_order: coherent_set\n")
-    proofs = f"{place}/crates/group_order/proofs"
-    with open(f"{proofs}/Figures.antt", encoding="utf-8") as f:
-        head = f.read().split("-- the writer after a heartbeat 4..6")[0]
+        f.writelines(known)
+    proofs = f"{place}/crates/{crate}/proofs"
+    with open(f"{proofs}/{file}.antt", encoding="utf-8") as f:
+        head = f.read().split(behind)[0]
     with open(f"{proofs}/Lib.antt", "a") as f:
         f.write("pub mod Against\n")
     with open(f"{proofs}/Against.antt", "w", encoding="utf-8") as f:
@@ -107,7 +116,7 @@ def main():
             printed = [next(answers) for _ in lines]
             kept = [line_term(a) for line, a in zip(lines, printed) if line[0] not in "TVD"]
             f.write(f"c{k} : prints {timeout} ({' ∷ '.join(terms + ['[]'])}) ≡ {' ∷ '.join(kept + ['[]'])}\nunfolding prints\nc{k} = refl\n\n")
-    done = subprocess.run(["rt", "check", "group_order"], cwd=place)
+    done = subprocess.run(["rt", "check", crate], cwd=place)
     print(f"{count} passed, 0 failed" if done.returncode == 0 else f"0 passed, {count} failed: the first error above names a list")
     sys.exit(done.returncode)
 

@@ -7,12 +7,12 @@ pub struct List {
     pub lines: usize,
 }
 
-const GROUP: u64 = 1;
-const DIGEST: u64 = 7;
-const ENTRIES: u64 = 256;
+pub const GROUP: u64 = 1;
+pub const DIGEST: u64 = 7;
+pub const ENTRIES: u64 = 256;
 
 impl List {
-    fn new(name: &str) -> Self {
+    pub fn new(name: &str) -> Self {
         Self {
             name: name.into(),
             text: Vec::new(),
@@ -20,10 +20,31 @@ impl List {
         }
     }
 
-    fn push(&mut self, line: String) {
+    pub fn push(&mut self, line: String) {
         self.text.extend(line.into_bytes());
         self.text.push(b'\n');
         self.lines += 1;
+    }
+
+    /// The list without its last line.
+    pub fn without_last(&self) -> Self {
+        let text = self.text.strip_suffix(b"\n").unwrap_or(&self.text);
+        let end = text.iter().rposition(|byte| *byte == b'\n');
+        Self {
+            name: self.name.clone(),
+            text: text[..end.map_or(0, |end| end + 1)].to_vec(),
+            lines: self.lines - 1,
+        }
+    }
+
+    /// A member of a set, of the group's first writer for its first reader.
+    fn push_member(&mut self, number: u64, set: u64) {
+        self.push(format!("S {GROUP} 1 0 {number} {set} {DIGEST} {number} 0"));
+    }
+
+    /// The end of a set: the writer's first number in it, and the end's own.
+    fn push_end(&mut self, number: u64, set: u64, numbers: &str) {
+        self.push(format!("E {GROUP} 1 0 {number} {set} {DIGEST} {numbers} 0"));
     }
 
     /// A plain sample of the group's first writer for its first reader.
@@ -52,6 +73,91 @@ pub fn all() -> Vec<List> {
         full_store(),
         heartbeats_and_gaps(),
     ]
+}
+
+/// Lists that end with their one release.
+pub fn releases() -> Vec<List> {
+    let mut lists = vec![
+        one_set(),
+        copies(),
+        many_sets(),
+        groups(),
+        falling(),
+        members_and_plain(),
+        one_number(),
+        many_ends(),
+    ];
+    for list in &mut lists {
+        list.push("R 0".into());
+    }
+    lists
+}
+
+fn one_set() -> List {
+    let mut list = List::new("one set of 254 members");
+    list.push(format!("V {GROUP} 1 0"));
+    (1..=254).for_each(|number| list.push_member(number, 1));
+    list.push_end(255, 1, "1 255");
+    list
+}
+
+fn copies() -> List {
+    let mut list = List::new("32 numbers, 8 copies each");
+    (0..8).for_each(|reader| list.push(format!("V {GROUP} 1 {reader}")));
+    for (number, reader) in (1..=32).flat_map(|number| (0..8).map(move |r| (number, r))) {
+        list.push(format!("S {GROUP} 1 {reader} {number} - {DIGEST} 1 0"));
+    }
+    list
+}
+
+fn many_sets() -> List {
+    let mut list = List::new("80 sets of 2");
+    list.push(format!("V {GROUP} 1 0"));
+    for first in (0..80).map(|set| 3 * set + 1) {
+        list.push_member(first, first);
+        list.push_member(first + 1, first);
+        list.push_end(first + 2, first, &format!("{first} {}", first + 2));
+    }
+    list
+}
+
+fn groups() -> List {
+    let mut list = List::new("8 groups of 32");
+    for (number, group) in (1..=32).flat_map(|number| (0..8).map(move |g| (number, g))) {
+        list.push(format!("S {group} 1 0 {number} - {DIGEST} 1 0"));
+    }
+    list
+}
+
+fn falling() -> List {
+    let mut list = List::new("256 numbers in falling order");
+    let numbers = (1..=ENTRIES).rev();
+    numbers.for_each(|number| list.push_plain(number));
+    list
+}
+
+fn members_and_plain() -> List {
+    let mut list = List::new("127 members, their end, 127 plain of its number");
+    list.push(format!("V {GROUP} 1 0"));
+    (1..=127).for_each(|number| list.push_member(number, 1));
+    list.push_end(128, 1, "1 128");
+    (0..127).for_each(|_| list.push_plain(128));
+    list
+}
+
+fn one_number() -> List {
+    let mut list = List::new("256 entries of one number, 256 equal rows");
+    // The counted reader's copy comes last.
+    (0..256).for_each(|_| list.push(format!("V {GROUP} 1 1")));
+    (1..ENTRIES).for_each(|_| list.push_plain(1));
+    list.push(format!("S {GROUP} 1 1 1 - {DIGEST} 1 0"));
+    list
+}
+
+fn many_ends() -> List {
+    let mut list = List::new("256 ends of 256 sets, one number");
+    (1..=ENTRIES).for_each(|set| list.push_end(1, set, "- -"));
+    list
 }
 
 /// Four writers, each with two of the eight readers. A set is a sample of

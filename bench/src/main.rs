@@ -2,10 +2,14 @@
 
 mod heap;
 mod lists;
+#[cfg(feature = "calls")]
+mod port_calls;
 mod stack;
 mod timing;
+mod worst;
 
 use std::hint::black_box;
+use std::io::Write;
 
 use lists::List;
 use oracle::bare::{self, Bare, Parsed};
@@ -60,10 +64,41 @@ fn by_rust_calls(list: &List) -> impl FnMut() {
     }
 }
 
+/// The port's calls, if the library exports them.
+#[cfg(feature = "calls")]
+fn by_port_calls(list: &List) -> Option<impl FnMut()> {
+    let calls = port_calls::Parsed::of(&list.text);
+    let mut port = port_calls::Port::new();
+    Some(move || {
+        black_box(port.run(black_box(&calls)));
+    })
+}
+
+#[cfg(not(feature = "calls"))]
+fn by_port_calls(_: &List) -> Option<fn()> {
+    None
+}
+
+const USAGE: &str = "usage: bench [worst SECONDS SEED | list SEED]";
+
 fn main() {
-    times();
-    growth();
-    bytes();
+    let arguments: Vec<String> = std::env::args().skip(1).collect();
+    let words: Vec<&str> = arguments.iter().map(String::as_str).collect();
+    let number = |text: &str| text.parse::<u64>().expect(USAGE);
+    match words[..] {
+        [] => {
+            times();
+            releases();
+            growth();
+            bytes();
+        }
+        ["worst", seconds, seed] => worst::search(number(seconds), number(seed)),
+        ["list", seed] => {
+            let text = worst::list(number(seed)).text;
+            std::io::stdout().write_all(&text).expect("it is printed");
+        }
+        _ => panic!("{USAGE}"),
+    }
 }
 
 /// Stops unless port, Rust and oracle answer alike, and without a refusal.
@@ -83,21 +118,58 @@ fn check(list: &List) {
 }
 
 fn times() {
-    println!("| List | Lines | Port µs | Rust µs | Port / Rust | Rust, calls alone µs |");
-    println!("|---|--:|--:|--:|--:|--:|");
-    for list in lists::all() {
+    println!(
+        "| List | Lines | Port µs | Rust µs | Port / Rust \
+         | Calls alone: port µs | Rust µs | Port / Rust |"
+    );
+    println!("|---|--:|--:|--:|--:|--:|--:|--:|");
+    for list in lists::all().into_iter().chain(lists::releases()) {
         check(&list);
-        let [port, rust, calls] = timing::medians([
+        let mut none = || ();
+        let mut calls = by_port_calls(&list);
+        let has_calls = calls.is_some();
+        let port_calls: &mut dyn FnMut() = match &mut calls {
+            Some(calls) => calls,
+            None => &mut none,
+        };
+        let [port, rust, port_calls, rust_calls] = timing::medians([
             &mut by_port(&list),
             &mut by_rust(&list),
+            port_calls,
             &mut by_rust_calls(&list),
         ]);
+        let calls = match has_calls {
+            true => format!(
+                "{port_calls:.1} | {rust_calls:.1} | {:.2}",
+                port_calls / rust_calls
+            ),
+            false => format!("– | {rust_calls:.1} | –"),
+        };
         println!(
-            "| {} | {} | {port:.1} | {rust:.1} | {:.2} | {calls:.1} |",
+            "| {} | {} | {port:.1} | {rust:.1} | {:.2} | {calls} |",
             list.name,
             list.lines,
             port / rust
         );
+    }
+    println!();
+}
+
+/// The release that ends a list, without the lines before it.
+fn releases() {
+    println!("| Release of | Port µs | Rust µs | Port / Rust |");
+    println!("|---|--:|--:|--:|");
+    for list in lists::releases() {
+        let before = list.without_last();
+        let [port, port_before, rust, rust_before] = timing::medians([
+            &mut by_port(&list),
+            &mut by_port(&before),
+            &mut by_rust(&list),
+            &mut by_rust(&before),
+        ]);
+        let (port, rust) = (port - port_before, rust - rust_before);
+        let name = &list.name;
+        println!("| {name} | {port:.1} | {rust:.1} | {:.2} |", port / rust);
     }
     println!();
 }

@@ -29,6 +29,8 @@ pub(crate) struct Offer {
     pub info: ChangeGroupInfo,
     pub content: Content,
     pub time: Duration,
+    /// Whether the writer's announcement named the group.
+    pub named: bool,
 }
 
 pub(crate) enum Call {
@@ -88,6 +90,7 @@ fn offer(fields: &mut Fields, content: fn(&mut Fields) -> Option<Content>) -> Op
         },
         content: content(fields)?,
         time: time(fields)?,
+        named: true,
     })
 }
 

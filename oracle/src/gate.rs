@@ -21,6 +21,7 @@
 use crate::calls::refuse;
 use crate::group_order::WriterGuid;
 use crate::line::{flag, guid_number, or_dash, signed, Fields};
+use crate::lists::wide;
 use crate::presentation::CoherentHold;
 use crate::replay::{shown, Answer, Replay};
 use crate::rng::Rng;
@@ -177,6 +178,7 @@ fn random_list(rng: &mut Rng, length: u64) -> (Vec<Vec<u8>>, bool) {
             1 => held + 1,
             2 => held.saturating_sub(1),
             3 => *rng.pick(&[0, 1, u64::MAX]),
+            4 => wide(rng),
             _ => 65,
         };
         let mark = match item < filled || (full && !rng.once_in(12)) {

@@ -3,7 +3,7 @@
 use crate::call_list::CallList;
 use crate::gate::{self, Gate};
 use crate::lists::{self, Line};
-use crate::replay::{self, Replay, WithFigures, LIST_WALK};
+use crate::replay::{self, Replay, WithFigures, LIMITS_WALK, LIST_WALK};
 use crate::scopes::{self, Scopes};
 use crate::tbf::{self, Tbf};
 use crate::turn::{self, Turn};
@@ -27,15 +27,15 @@ const KINDS: [Kind; 6] = [
     Kind {
         name: "call-list",
         lines: 1,
-        fresh: || Box::new(CallList::new(LIST_WALK)),
-        limits: Vec::new,
+        fresh: || Box::new(CallList::new(LIMITS_WALK)),
+        limits: lists::limits,
         list: lists::list,
     },
     Kind {
         name: "figures",
         lines: 2,
-        fresh: || Box::new(WithFigures(CallList::new(LIST_WALK))),
-        limits: Vec::new,
+        fresh: || Box::new(WithFigures(CallList::new(LIMITS_WALK))),
+        limits: lists::limits,
         list: lists::list,
     },
     Kind {

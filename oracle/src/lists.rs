@@ -18,13 +18,16 @@ pub type Line = Vec<u8>;
 type Generator = fn(&mut Rng) -> Vec<String>;
 
 /// Random lists, each as often as its weight says.
-const RANDOM: [(u64, Generator); 8] = [
+const RANDOM: [(u64, Generator); 11] = [
     (40, mixed::list),
     (40, published::list),
     (20, mixed::at_the_ends),
     (6, boundary::groups),
     (6, boundary::pairs),
-    (1, boundary::rows),
+    (4, boundary::sets),
+    (1, boundary::holes),
+    (2, boundary::refused),
+    (2, boundary::rows),
     (1, boundary::entries),
     (1, boundary::samples),
 ];
@@ -54,6 +57,11 @@ pub fn list(seed: u64, index: u64, first: bool) -> Vec<Line> {
     }
 }
 
+/// Calls at the limits, on their own.
+pub(crate) fn limits() -> Vec<Line> {
+    lines(boundary::limits())
+}
+
 fn random(rng: &mut Rng) -> Vec<String> {
     let mut left = rng.below(RANDOM.iter().map(|(weight, _)| weight).sum());
     for (weight, generator) in RANDOM {
@@ -63,6 +71,18 @@ fn random(rng: &mut Rng) -> Vec<String> {
         left -= weight;
     }
     unreachable!("the weights add up")
+}
+
+/// Places of a lent list at the ends of widths: more than are needed, but
+/// few or none by their lower bits.
+pub(crate) fn wide(rng: &mut Rng) -> u64 {
+    let end = *rng.pick(&[8, 16, 31, 32, 33, 48, 63]);
+    match rng.below(8) {
+        0 => u64::MAX,
+        1 => (1 << end) - 1,
+        2 => (1 << end) + 1,
+        _ => 1 << end,
+    }
 }
 
 fn lines(texts: Vec<String>) -> Vec<Line> {

@@ -12,9 +12,10 @@ pub(crate) type Answer = Result<String, Refusal>;
 /// The answer to a call that the Rust would not end in time.
 pub const TOO_LONG: &str = "the Rust would walk too long";
 
-/// How many numbers a release may walk over: in a program on its own, and in
-/// one of many lists.
+/// How many numbers a release may walk over: in a program on its own, at the
+/// limits, and in one of many lists.
 pub const LONGEST_WALK: u64 = 1_000_000_000;
+pub const LIMITS_WALK: u64 = 20_000_000;
 pub const LIST_WALK: u64 = 400_000;
 
 /// A state that calls change, line by line.

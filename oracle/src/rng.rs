@@ -41,6 +41,12 @@ impl Rng {
         self.below(times) == 0
     }
 
+    pub(crate) fn shuffle<T>(&mut self, items: &mut [T]) {
+        for place in 1..items.len() {
+            items.swap(place, self.below(place as u64 + 1) as usize);
+        }
+    }
+
     pub(crate) fn pick<'a, T>(&mut self, from: &'a [T]) -> &'a T {
         &from[self.below(from.len() as u64) as usize]
     }

@@ -22,6 +22,7 @@
 
 use crate::calls::refuse;
 use crate::line::Fields;
+use crate::lists::wide;
 use crate::presentation::{due_time, TbfHold};
 use crate::replay::{shown, Answer, Refusal, Replay};
 use crate::rng::Rng;
@@ -192,11 +193,19 @@ pub fn list(seed: u64, index: u64, length: u64) -> Vec<Vec<u8>> {
     let filled = if full { rng.between(29, 32) as u64 } else { 0 };
     let instances = if full { 36 } else { rng.between(1, 6) as u64 };
     let far = rng.once_in(4);
+    // Some differ in their high or their low halves alone, and some rise in
+    // one while they fall in the other.
+    let spread: fn(u64) -> u64 = *rng.pick::<fn(u64) -> u64>(&[
+        |k| k,
+        |k| k << 32,
+        |k| k << 40 | (100 - k),
+        |k| k.wrapping_mul(0x9E37_79B9_7F4A_7C15),
+    ]);
     for item in 0..filled + length {
         let instance = match rng.below(instances) {
-            _ if item < filled => item,
+            _ if item < filled => spread(item),
             0 => u64::MAX,
-            k => k,
+            k => spread(k),
         };
         let held = tbf.hold.all();
         let line = match rng.below(if full { 24 } else { 10 }) {
@@ -211,11 +220,12 @@ pub fn list(seed: u64, index: u64, length: u64) -> Vec<Vec<u8>> {
                     }
                 };
                 let due = tbf.due(now);
-                let places = match rng.below(6) {
+                let places = match rng.below(7) {
                     0 => due.saturating_sub(1),
                     1 => due,
                     2 => due + 1,
                     3 => *rng.pick(&[0, u64::MAX]),
+                    4 => wide(&mut rng),
                     _ => 32,
                 };
                 format!("T {} {} {places}", now.sec, now.nanosec)

@@ -8,6 +8,10 @@
 //! P group writer reader gap                                        progress row without a heartbeat
 //! Q group writer reader gap first last current digest secure      progress row with one
 //! U time places                                                    turn
+//! R time places                                                    release of the history beneath
+//! N S .. or N E ..                                                 an offer whose group was not named
+//! A S .. or A E ..                                                 an offer without group information
+//! B 1 or B 0                                                       GUIDs spread from here on, or not
 //! K bytes                                                          group key of a GUID
 //! ```
 //!
@@ -16,7 +20,9 @@
 //! (unsigned 64-bit) and prints `refused` and the number, `idle` if nothing
 //! waits, or `out`, the samples, `|`, the four counts since the fresh start,
 //! `|` and what the turn added to them. `K` takes sixteen bytes and prints
-//! the sixteen of `participant_group_key`. Any other line is `bad`.
+//! the sixteen of `participant_group_key`. `R` prints what the call list's
+//! prints, `N` what an offer prints, `A` `given back`, `B` `ok`. GUID k, spread,
+//! is the sixteen bytes k xor 17 i; `T` ends it. Any other line is `bad`.
 
 use core::cell::RefCell;
 use core::time::Duration;
@@ -25,9 +31,9 @@ use rust_std::sync::Arc;
 use crate::call::{self, Call, Content, Offer, Pair};
 use crate::calls::{check_readers, Calls, History};
 use crate::figures;
-use crate::group_order::{GroupOrder, ReleaseCounts};
+use crate::group_order::{GroupOrder, ReleaseCounts, WriterGuid};
 use crate::line::{hex, Fields};
-use crate::lists;
+use crate::lists::{self, wide};
 use crate::presentation::{group_key_of, GroupOrdering};
 use crate::replay::{shown, Answer, Replay, LIST_WALK, TOO_LONG};
 use crate::rng::Rng;
@@ -56,23 +62,10 @@ impl History for GroupOrdering<u8> {
             writer: writer_guid,
             info: offer.info,
         });
-        let item = match offer.content {
-            Content::Sample(item) => UserSample::Alive {
-                writer_guid,
-                coherent_set_sn: None,
-                group,
-                item,
-            },
-            Content::End(end) => UserSample::CoherentSetEnd {
-                writer_guid,
-                set_first_sn: end.first_sn,
-                ecs_sn: end.ecs_sn,
-                complete: None,
-                group,
-            },
-        };
+        let item = item(offer.content, writer_guid, group);
+        let named = offer.named.then_some(key);
         let runtime = DcpsRuntime {
-            groups: RefCell::new([key].into()),
+            groups: RefCell::new(named.into_iter().collect()),
             ..DcpsRuntime::default()
         };
         Instant::set(offer.time);
@@ -80,10 +73,29 @@ impl History for GroupOrdering<u8> {
     }
 }
 
+fn item(content: Content, writer_guid: WriterGuid, group: Option<SampleGroup>) -> UserSample {
+    match content {
+        Content::Sample(item) => UserSample::Alive {
+            writer_guid,
+            coherent_set_sn: None,
+            group,
+            item,
+        },
+        Content::End(end) => UserSample::CoherentSetEnd {
+            writer_guid,
+            set_first_sn: end.first_sn,
+            ecs_sn: end.ecs_sn,
+            complete: None,
+            group,
+        },
+    }
+}
+
 /// The state that the lines change.
 pub struct Turn {
     calls: Calls<GroupOrdering<u8>>,
     progress: Vec<(Pair, Progress)>,
+    spread: bool,
 }
 
 impl Turn {
@@ -91,6 +103,39 @@ impl Turn {
         Self {
             calls: Calls::new(longest_walk),
             progress: Vec::new(),
+            spread: false,
+        }
+    }
+
+    /// A GUID of a line, spread or as it is.
+    fn spelled(&self, guid: WriterGuid) -> WriterGuid {
+        match self.spread {
+            true => core::array::from_fn(|i| guid[15] ^ (17 * i) as u8),
+            false => guid,
+        }
+    }
+
+    fn pair(&self, pair: Pair) -> Pair {
+        Pair {
+            group: self.spelled(pair.group),
+            writer: self.spelled(pair.writer),
+            reader: pair.reader,
+        }
+    }
+
+    fn call(&self, call: Call) -> Call {
+        match call {
+            Call::Counted(pair) => Call::Counted(self.pair(pair)),
+            Call::Digest(group, digest) => Call::Digest(self.spelled(group), digest),
+            Call::Offer(mut offer) => {
+                offer.pair = self.pair(offer.pair);
+                Call::Offer(offer)
+            }
+            Call::Heartbeat(group, writer, info) => {
+                Call::Heartbeat(self.spelled(group), self.spelled(writer), info)
+            }
+            Call::Gap(pair, number) => Call::Gap(self.pair(pair), number),
+            call => call,
         }
     }
 
@@ -110,7 +155,7 @@ impl Turn {
                     heartbeat,
                     gap_end_gsn,
                 };
-                self.progress.push((pair, progress));
+                self.progress.push((self.pair(pair), progress));
                 Some(Ok("ok".into()))
             }
             b"U" => {
@@ -118,21 +163,69 @@ impl Turn {
                 fields.end()?;
                 Some(self.turn(now, places))
             }
+            b"R" => {
+                let (now, places) = (call::time(&mut fields)?, fields.unsigned()?);
+                fields.end()?;
+                Some(self.release(now, places))
+            }
+            kind @ (b"N" | b"A") => {
+                let Call::Offer(mut offer) = self.call(call::parse(line.get(2..)?)?) else {
+                    return None;
+                };
+                if kind == b"A" {
+                    let Pair { writer, reader, .. } = offer.pair;
+                    let item = item(offer.content, writer, None);
+                    let runtime = DcpsRuntime::default();
+                    let back = self.calls.history.offer(&runtime, reader, item);
+                    assert!(back.is_some(), "without group information");
+                    return Some(Ok("given back".into()));
+                }
+                offer.pair.group = group_key_of(offer.pair.writer);
+                offer.named = false;
+                Some(self.calls.run(Call::Offer(offer), |_, _| unreachable!("an offer")))
+            }
+            b"B" => {
+                let spread = fields.flag()?;
+                fields.end()?;
+                self.spread = spread;
+                Some(Ok("ok".into()))
+            }
             b"K" => {
                 let guid = <[u8; 16]>::try_from(fields.bytes()?).ok()?;
                 fields.end()?;
                 Some(Ok(hex(&group_key_of(guid))))
             }
-            _ => match call::parse(line)? {
+            _ => match self.call(call::parse(line)?) {
                 Call::Release(_) => None,
                 call => {
                     if matches!(call, Call::Fresh(_)) {
                         self.progress.clear();
+                        self.spread = false;
                     }
                     Some(self.calls.run(call, |_, _| unreachable!("no release here")))
                 }
             },
         }
+    }
+
+    fn release(&mut self, now: Duration, places: u64) -> Answer {
+        let calls = &mut self.calls;
+        calls.check_rows()?;
+        calls.check_places(places)?;
+        let order = calls.history.order();
+        if order.walk(Some(&calls.rows), i64::MIN) > calls.longest_walk {
+            calls.covered = false;
+            return Ok(TOO_LONG.into());
+        }
+        let samples = order.release(&calls.rows, now).into_iter();
+        let samples: Vec<(u8, u32)> = samples
+            .map(|(reader, sample)| match sample {
+                UserSample::Alive { item, .. } => (reader, item),
+                other => panic!("{other:?} was never offered as a sample"),
+            })
+            .collect();
+        calls.covered &= order.committed_sum() <= u64::MAX.into();
+        Ok(figures::written(&samples) + &figures::counts(&order.counts()))
     }
 
     fn turn(&mut self, now: Duration, places: u64) -> Answer {
@@ -237,7 +330,16 @@ pub fn list(seed: u64, index: u64) -> Vec<Vec<u8>> {
     let mut rng = Rng::of(!seed, index);
     let mut turn = Turn::new(LIST_WALK);
     let mut lines = Vec::new();
-    for line in lists::list(seed, index, false) {
+    let given = lists::list(seed, index, false).into_iter();
+    let given: Vec<Vec<u8>> = given
+        .flat_map(|line| match line.first() {
+            Some(b'T') if call::parse(&line).is_some() && rng.once_in(2) => {
+                vec![line, b"B 1".to_vec()]
+            }
+            _ => vec![line],
+        })
+        .collect();
+    for line in given {
         let mut line = turned(&mut rng, &mut turn, line);
         loop {
             let answer = turn.answer(&line);
@@ -271,15 +373,19 @@ fn turned(rng: &mut Rng, turn: &mut Turn, line: Vec<u8>) -> Vec<u8> {
     };
     let turned = match fields.as_slice() {
         ["R", time] => {
-            let stored = turn.calls.history.order().sample_count() as i64;
-            let places = match rng.below(6) {
+            let stored = turn.calls.history.order().sample_count() as u64;
+            let places = match rng.below(7) {
                 0 => stored,
-                1 => (stored - 1).max(0),
-                2 => rng.between(0, 3),
+                1 => stored.saturating_sub(1),
+                2 => rng.below(4),
+                3 => wide(rng),
                 _ => 256,
             };
-            format!("U {time} {places}")
+            let call = if rng.once_in(3) { "R" } else { "U" };
+            format!("{call} {time} {places}")
         }
+        ["S" | "E", ..] if rng.once_in(6) => format!("N {text}"),
+        ["S" | "E", ..] if rng.once_in(40) => format!("A {text}"),
         ["G", rest @ ..] => format!("P {}", rest.join(" ")),
         ["H", group, writer, rest @ ..] => {
             let gap = rng.between(-1, 3);

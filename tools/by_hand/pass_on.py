@@ -12,7 +12,7 @@ PARAM: {"name": X, "kind": K, ..}, by kind K:
     uint           "type": "u8".."u64" or "usize"          X: u64
     sint           "type": "i8".."i64" or "isize"          X: i64
     bool                                                   X: bool
-    array          "elem": NUM, "len": n                   X: [u8; 16]      by value, of numbers
+    array          "elem": NUM or TYPE, "len": n           X: [u8; 16] or [Record; 16]      by value
     rows           "elem": TYPE, "table": TYPE, "gather": FN, "of": DEFINITION   X: &[Record]; FN ensures r ≡ DEFINITION (now (X .entry))
     shr            "elem": NUM or TYPE                     X: &[u64] or &[Record], passed on as it is
     shrref         "elem": NUM, "len": n (or none)         X: &[u64; n] (or &u64)
@@ -29,10 +29,14 @@ STEP, in the source's order, each a statement before the last call:
         From then on V names the result, and V2 what X refers to.
     {"call": FN, "args": [NAME..], "as": V, "kind": .., "type": .., "ends": {X: V2}, "post": TEXT}     (only with "lemma")
         the same where FN ensures just ⌜ TEXT ⌝, any proposition on the values so far, V and each V2.
+    {"zeros": X, "elem": NUM, "len": n, "as": V}   (only with "lemma")  `let mut x = [0; n];`, a local array, lent from then on by "&mut x" or "&x" among the arguments (of the last call too). The lemma is given  V ≡ replicate n 0.
+        A mutref X is lent to a step as a `&` by "&X" (`f(x)` where f takes `&[u64; n]`); then it has no "ends". With "ends" for what "&mut x" leaves, as for a mutref; SPEC names "locals": MODULE, the proofs module that has local-in and local-room (crates/group_view/proofs/Locals.antt).
+    The last call may be lent the first V elements of an array parameter X of records, `&x[..v]`: {"first": X, "to": V, "bound": TEXT} among its arguments, V the result of a step of type usize,
+        TEXT a proof of V ≤ n (e·j proves the "post" of step j, counted from 0).
     {"len": X, "as": V}              (only with "lemma")  `let v = x.len();` of a mut or shr parameter X, before X is given up. The lemma is given  V ≡ length X-now.
 Without "steps": the gathers, in the parameters' order. Without "args": all parameters in order. Every mut and mutref must be among inner's arguments:
 they are given up to it for good. A mut can't be lent to a step.
-TEXT of "said": what inner's `ensures` says at these arguments, as an antt type. In each TEXT a parameter's name is its value (a gathered one's its
+TEXT of "said": what inner's `ensures` says at these arguments, as an antt type; with "lemma", a list of TEXTs where inner has several clauses, which the lemma is given as A × (B × C). In each TEXT a parameter's name is its value (a gathered one's its
 TABLE), of a reference X-now is what it refers to at entry, of a mut or mutref X-end what it refers to at exit; r is the result.
 With each V replaced by its TEXT, "said" must be what F's `ensures` says.
 With "lemma": TEXT and "ensures": TEXT there is no replacing. "ensures" is what F's `ensures` says, of the parameters, r and the X-end; a list of TEXTs where F has several, which the lemma proves as A × (B × C). The lemma is applied to what stands in its
@@ -71,6 +75,7 @@ class Num:
         return n + (f" {s.w}" if s.w else '')
     def fits(s, x): return {'uint': f"{x} < 2 ^ {s.w[1:] if s.w else ''}", 'sint': f"mag {x} < 2 ^ hbits {s.w}"}.get(s.k)
     def isp(s, x): return 'refl' if s.k in ('bool', 'unit') else f"(refl, {x}-fits)"
+erow_of = lambda n: n.row() if isinstance(n, Decl) else n.t
 LTY = lambda t: base(t) + '-T'
 LLW = lambda t: base(t) + '-L'
 class Decl:  # a declared struct or enum
@@ -80,6 +85,10 @@ class Decl:  # a declared struct or enum
     def val(s, x): return f"{s.L}.val {s.both()} {x}"
     def lawful(s): return f"{s.L}.lawful {s.both()} {G}{s.few}"
     def copy(s): return f"{s.L}.copy {LTY(s.t)}.the-type {LLW(s.t)}.the-copy {G}"
+    # as a number's, so that an array's elements may be either
+    def ty(s): return base(s.t)
+    def mir(s): return f"{LLW(s.t)}.mir"
+    def law(s, l): return {'vals': f"{s.L}.vals {s.both()}", 'tells': f"{s.L}.tells {s.both()}", 'lawful': s.lawful(), 'copy': s.copy()}[l]
 REFS = ('rows', 'mut', 'mutref', 'shr', 'shrref')
 types = []
 def use_ty(t):
@@ -92,7 +101,8 @@ class Par:
         if s.kind in ('struct', 'enum'): s.d = Decl(p['type'], s.kind == 'enum'); use_ty(p['type'])
         if s.fresh: s.n = Num(p.get('type', 'bool'))
         s.decl = s.kind == 'rows' or (s.kind == 'shr' and p['elem'] not in W and p['elem'] != 'bool')
-        if s.kind in ('array', 'mut', 'mutref', 'shr', 'shrref') and not s.decl: s.n = Num(p['elem'])
+        if s.kind == 'array' and p['elem'] not in W and p['elem'] != 'bool': s.n = Decl(p['elem'], False); s.n.t_ = p['elem']; use_ty(p['elem'])
+        elif s.kind in ('array', 'mut', 'mutref', 'shr', 'shrref') and not s.decl: s.n = Num(p['elem'])
         if s.kind == 'shr' and s.decl: use_ty(p['elem'])
         if s.kind == 'rows': use_ty(p['elem']); use_ty(p['table'])
         s.end = s.x + '-end'
@@ -113,13 +123,13 @@ class Par:
     def row(s):
         if s.kind in ('struct', 'enum'): return s.d.row()
         if s.fresh: return s.n.t
-        if s.kind == 'array': return f"(Array {s.n.t} {s.p['len']})"
+        if s.kind == 'array': return f"(Array {erow_of(s.n)} {s.p['len']})"
         k = lft[s.i]
         return {'rows': 'ShrSlice', 'shr': 'ShrSlice', 'mut': 'MutSlice', 'mutref': 'MutRef', 'shrref': 'ShrRef'}[s.kind] + f" (named {k}) κ{k} {s.erow()}"
-    def lawful(s): return s.d.lawful() if s.kind in ('struct', 'enum') else f"array-lawful {G} {s.n.t} ({s.n.law('lawful')}) {s.p['len']}"
+    def lawful(s): return s.d.lawful() if s.kind in ('struct', 'enum') else f"array-lawful {G} {erow_of(s.n)} ({s.n.law('lawful')}) {s.p['len']}"
     def copy(s):
         if s.kind in ('struct', 'enum'): return s.d.copy()
-        if s.kind == 'array': return f"array-copy {G} {s.n.t} ({s.n.law('copy')}) {s.p['len']}"
+        if s.kind == 'array': return f"array-copy {G} {erow_of(s.n)} ({s.n.law('copy')}) {s.p['len']}"
         k = lft[s.i]
         return ('shr-slice-copy' if s.slice else 'shr-copy') + f" {G} (named {k}) κ{k} {s.erow()}"
     def mir(s): return f"{LLW(s.p['type'])}.mir" if s.kind in ('struct', 'enum') else f"(tyArray ({s.n.mir()}) {s.p['len']})"
@@ -135,16 +145,45 @@ R, RT, RLAW, _ = result_of(res['kind'], res.get('type', res.get('elem')), res.ge
 rows = [p for p in P if p.kind == 'rows']; refs = [p for p in P if p.ref]; muts = [p for p in P if p.mut]
 lft = {p.i: k for k, p in enumerate(refs)}; L = len(refs)
 ENS = S.get('ensures', ''); ENS = ENS if isinstance(ENS, list) else [ENS]    # its clauses
+SAID = S['said'] if isinstance(S['said'], list) else [S['said']]; S['said'] = SAID[0] if len(SAID) == 1 else None    # the last call's clauses
 LEM = S.get('lemma')                       # what the steps say gives what F ensures, by this lemma; else each step's values are replaced by what they are
 if LEM is None: assert 'ensures' not in S and not any('post' in s for s in S.get('steps', [])), '"post" and "ensures" need a "lemma"'
-if len(muts) == 1 and (muts[0].x + '-end') not in S['said'] and not LEM: muts[0].end = 'ws'
+if len(muts) == 1 and not LEM and (muts[0].x + '-end') not in S['said']: muts[0].end = 'ws'
 # ---- the steps
 class Step: pass
+class Loc:  # a local array
+    def __init__(s, d):
+        s.x, s.n, s.len, s.kind, s.mut, s.ref, s.fresh, s.i = d['zeros'], Num(d['elem']), d['len'], 'local', False, True, False, d['zeros']
+    def erow(s): return f"(Array {s.n.t} {s.len})"
+    def now(s): return f"List {s.n.ty()}"
+    def arg(s): return s.x
+LOC = {s['zeros']: Loc(s) for s in S.get('steps', []) if 'zeros' in s}
+class First:  # the first elements of an array parameter
+    def __init__(s, d):
+        s.p, s.x, s.to, s.bound, s.kind, s.mut, s.ref, s.fresh = BY[d['first']], d['first'], d['to'], d['bound'], 'first', False, True, False
+        s.i, s.len = s.x, s.p.p['len']
+    def erow(s): return erow_of(s.p.n)
+    def now(s): return f"List {s.p.n.ty()}"
+def arg_of(a):
+    if isinstance(a, dict): return ('first', First(a))
+    if a in RV: return ('var', a)
+    if a.startswith('&mut '): return ('lend', LOC[a[5:]])
+    if a.startswith('&') and a[1:] in BY: return ('reshare', BY[a[1:]])
+    if a.startswith('&'): return ('share', LOC[a[1:]])
+    return ('par', BY[a])
+LOANS = ('lend', 'share')
 steps, tabs, VARS = [], set(), []          # VARS: (name, antt type, text), in order
 RV = {}                                    # results that can be passed on: name -> (antt type, row, lawful, copy)
 for j, s in enumerate(S.get('steps', [{"gather": p.x} for p in rows])):
-    t = Step(); t.j = j; t.len = None
-    if 'len' in s:
+    t = Step(); t.j = j; t.len = None; t.zeros = None
+    if 'zeros' in s:
+        q = LOC[s['zeros']]; assert LEM
+        t.zeros, t.fn, t.as_, t.args, t.lent, t.new, t.eqs = q, None, None, [], [], {q.x: s['as']}, []
+        t.ty, t.row, t.law, t.copy = result_of('array', q.n.t, q.len)
+        t.before = [v[0] for v in VARS]; t.rbefore = list(RV); t.post = f"{s['as']} ≡ replicate {q.len} 0"
+        VARS.append((s['as'], t.ty, None)); t.nv = len(VARS); t.ev = 'refl'; q.first = s['as']
+        steps.append(t); continue
+    if 'call' not in s and 'len' in s:
         p = BY[s['len']]; assert LEM and p.kind in ('mut', 'shr')
         t.len, t.fn, t.as_, t.args, t.lent, t.new, t.eqs = p, None, s['as'], [], [], {}, []
         t.ty, t.row, t.law, t.copy = result_of('uint', 'usize')
@@ -156,11 +195,11 @@ for j, s in enumerate(S.get('steps', [{"gather": p.x} for p in rows])):
         p = BY[s['gather']]
         s = {"call": p.p['gather'], "args": [p.x], "as": p.x, "kind": "struct", "type": p.p['table'], "is": f"{p.p['of']} {p.x}-now"}
     t.fn, t.as_ = s['call'], s.get('as')
-    t.args = [('var', a) if a in RV else ('par', BY[a]) for a in s['args']]
+    t.args = [arg_of(a) for a in s['args']]
     t.ty, t.row, t.law, t.copy = result_of(s.get('kind', 'unit'), s.get('type', s.get('elem')), s.get('len')) if t.as_ else ('Unit {0}', 'unit', 'nothing-lawful ' + G, None)
     t.before = [v[0] for v in VARS]; t.rbefore = list(RV)
     ends = s.get('ends', {})
-    t.lent = [(i, a) for i, (k, a) in enumerate(t.args) if k == 'par' and a.kind == 'mutref']
+    t.lent = [(i, a) for i, (k, a) in enumerate(t.args) if k == 'lend' or k == 'par' and a.kind == 'mutref']
     t.post = s.get('post')
     t.eqs = [('r', s['is'])] if t.as_ and not t.post else []
     new = [(t.as_, t.ty, s.get('is'))] if t.as_ else []
@@ -173,22 +212,26 @@ for j, s in enumerate(S.get('steps', [{"gather": p.x} for p in rows])):
     if not t.post: t.says = [f"({t.as_ if w == 'r' else t.new[t.args[w[1]][1].x]} ≡ {e})" for w, e in t.eqs]
     if t.as_: RV[t.as_] = (t.ty, t.row, t.law, t.copy)
     steps.append(t)
-fin_args = [('var', a) if a in RV else ('par', BY[a]) for a in S.get('args', [p.x for p in P])]
+fin_args = [arg_of(a) for a in S.get('args', [p.x for p in P])]
+FIRST = sorted([a for k, a in fin_args if k == 'first'], key=lambda q: q.p.i)
 given = [a for k, a in fin_args if k == 'par' and a.mut]
 assert {p.x for p in given} == {p.x for p in muts}, "every mut and mutref must be passed to inner"
 given = muts
 # ---- locals: the parameters, then what `let` binds, then for each call its unit result, where it has one (all share the first's local), and its reborrows
 nxt = 1 + n; unit_at = None
+for q in FIRST: q.at = nxt; nxt += 1
 for t in steps:
-    if t.as_: t.dest = nxt; nxt += 1
+    if t.as_ or t.zeros: t.dest = nxt; nxt += 1
+    if t.zeros: t.zeros.at = t.dest
 for t in steps:
     t.first = True
-    if not t.as_:
+    if not t.as_ and not t.zeros:
         t.first = unit_at is None
         if t.first: unit_at = nxt; nxt += 1
         t.dest = unit_at
     t.tmp = {}
-    for i, p in t.lent: t.tmp[i] = nxt; nxt += 1
+    for i, (k, a) in enumerate(t.args):
+        if k in LOANS or k == 'reshare' or k == 'par' and a.kind == 'mutref': t.tmp[i] = nxt; nxt += 1
 UNIT = res['kind'] == 'unit'
 fdest = 0; ffirst = True
 if UNIT:
@@ -197,6 +240,8 @@ if UNIT:
     fdest = unit_at
 tmp = {}
 for k, a in fin_args:
+    if k in LOANS: tmp[a.i] = (nxt,); nxt += 1
+    if k == 'first': tmp[a.i] = (nxt, nxt + 1); nxt += 2
     if k == 'par' and a.mut: tmp[a.i] = (nxt, nxt + 1) if a.kind == 'mut' else (nxt,); nxt += len(tmp[a.i])
 N = nxt
 def nest(xs, end='tt'):
@@ -257,6 +302,12 @@ use denote.Triple.Table.{entered, cited}
 use denote.Triple.Walked.{says, Stays, stay-none, stay-none-slice, stay-none-ref, gave-slice, gave-ref, walkOf, goes-none, goes-none-slice, goes-none-ref, goes-gave-slice, goes-gave-ref, Walks, ends-at, walked, walk-meets}
 use denote.Triple.Clauses.{ensured, lasts}
 use denote.Exit.{yes}""")
+if FIRST:
+    E("use mathlib.Core.Path.{ap}"); E("use lib.Dec.{lit<}"); E("use lib.ListN.{take}"); E("use base.Fml.{fat, froom}"); E("use types.Kit.{rewrite}"); E("use denote.Memory.{partAt}"); E("use denote.Steps.{only}"); E(f"use {S['locals']}.{{local-in, local-room, FirstLent, lends-first, first-back, room-first}}")
+if LOC:
+    E("use lib.Dec.{lit<}"); E("use lib.ListN.{replicate}"); E("use base.Fml.{froom, flent}"); E("use types.Tokens.{lent-back}"); E("use types.Part.{rep}"); E("use types.Run.{lit}"); E("use types.SemTy.{Body}")
+    E("use denote.Memory.{partAt, mem}"); E("use denote.Array.{array-repeat}"); E("use denote.Lend.{lends-ref, ref-back, lends-shr}"); E(f"use {S['locals']}.{{local-in, local-room}}")
+if any(k == 'reshare' for t in steps for k, a in t.args): E(f"use {S['locals']}.{{SharedAgain, shares-again, shared-back}}")
 if len(ENS) > 1: E("use base.Logic.{sep, comm∗, emp∗, monoL, mono∗}"); E("use contract.Monad.{factI}"); E("use types.Kit.{Step, step, prop}")
 for l in S['specs']: E(l)
 for t in types:
@@ -312,6 +363,12 @@ for p in refs:
     E(f"  abbrev {x}-at : GName → {p.now()} → RefT ({p.now()})"); E(f"  {x}-at δ now = record {{ ptr = ({x}-b, {x}-o); name = δ; now = now }}"); E("")
     E(f"  abbrev {x}-ref : RefT ({p.now()})"); E(f"  {x}-ref = {x}-at {x}-γ {x}-now"); E("")
     E(f"  abbrev {x}-val : Val"); E(f"  {x}-val = " + (f"sliceVal ({x}-b, {x}-o) (length {x}-now)" if p.slice else f"vptr {x}-b {x}-o")); E("")
+for q in LOC.values():
+    E(f"  abbrev {q.x}-at : ℕ → GName → {q.now()} → RefT ({q.now()})"); E(f"  {q.x}-at b δ now = record {{ ptr = (b, 0); name = δ; now = now }}"); E("")
+    E(f"  abbrev In·{q.x} : ℕ → {q.now()} → Item 𝓤"); E(f"  In·{q.x} b now = ‵ (partAt {q.erow()} fullShare now b 0)"); E("")
+for q in FIRST:
+    E(f"  abbrev {q.x}-first : ℕ → GName → {q.now()} → RefT ({q.now()})"); E(f"  {q.x}-first b δ now = record {{ ptr = (b, 0); name = δ; now = now }}"); E("")
+    E(f"  abbrev In·{q.x} : ℕ → Item 𝓤"); E(f"  In·{q.x} b = ‵ (partAt (Array {q.erow()} {q.len}) fullShare {q.x} b 0)"); E("")
 for p in P:
     if p.kind in ('struct', 'enum', 'array'):
         v = p.d.val(p.x) if p.kind != 'array' else f"arrayVal (map (λ y. {p.n.val('y')}) {p.x})"
@@ -338,7 +395,9 @@ if LEM:
     E("  -- what each step says, of the values in between; what the last call says; what the contract says; and that they give it")
     for t in steps:
         E(f"  abbrev Post·{t.j} : " + arr(vt[:t.nv])); E(' '.join([f"  Post·{t.j}"] + vn[:t.nv]) + f" = {t.post or conj(t.says)}"); E("")
-    E("  abbrev Said·last : " + arr(vt + endT)); E("  Said·last " + ' '.join(vn + endN) + f" = {S['said']}"); E("")
+    if len(SAID) > 1:
+        for j, q in enumerate(SAID): E(f"  abbrev Said·{j} : " + arr(vt + endT)); E(f"  Said·{j} " + ' '.join(vn + endN) + f" = {q}"); E("")
+    E("  abbrev Said·last : " + arr(vt + endT)); E("  Said·last " + ' '.join(vn + endN) + f" = {S['said'] or conj([f'Said·{j} ' + ' '.join(vn + endN) for j in range(len(SAID))])}"); E("")
     if len(ENS) > 1:
         for j, q in enumerate(ENS): E(f"  abbrev Ensured·{j} : " + arr(endT)); E(f"  Ensured·{j} " + ' '.join(endN) + f" = {q}"); E("")
     E("  abbrev Ensured·here : " + arr(endT)); E("  Ensured·here " + ' '.join(endN) + f" = {conj([f'Ensured·{j} ' + ' '.join(endN) for j in range(len(ENS))] if len(ENS) > 1 else ENS)}"); E("")
@@ -412,6 +471,8 @@ def callee(name, fn_, args, before, rbefore, last):
     ps = [(v, t) for v, t, _ in VARS if v in before] + [(f"{v}-tv", 'Val') for v in rbefore]
     lnt = [] if last else [a for k, a in args if k == 'par' and a.kind == 'mutref']
     for p in lnt: ps += [(f"{p.x}-ν", 'ℕ'), (f"{p.x}-δ", 'GName')]
+    for p in [a for k, a in args if k == 'reshare']: ps += [(f"{p.x}-ν", 'ℕ'), (f"{p.x}-δ", 'GName')]
+    for q in [a for k, a in args if k == 'first' or k in LOANS]: ps += [(f"{q.x}-l", 'ℕ'), (f"{q.x}-ν", 'ℕ'), (f"{q.x}-δ", 'GName')]
     cur = {}
     for t in steps:
         if t.j < (len(steps) if last else name):
@@ -421,6 +482,18 @@ def callee(name, fn_, args, before, rbefore, last):
     for k, a in args:
         if k == 'var':
             al.append(a); vl.append(f"{a}-tv ∷ []"); own.append((f"o·{a}", f"‵ ({RV[a][1]} .own {a} ({a}-tv ∷ []))")); it.append(f"o·{a}"); continue
+        if k == 'reshare':
+            κl.append(f"({a.x}-ν ∷ [])"); ql.append('fullShare'); tk.append((f"nu{a.i}", f"‵ (flft ({a.x}-ν ∷ []) fullShare)"))
+            al.append(f"{a.x}-at {a.x}-δ {val(a)}"); vl.append(f"{a.val()} ∷ []"); it.append(f"s{a.i}")
+            own.append((f"s{a.i}", f"‵ (ShrRef (named {lft[a.i]}) ({a.x}-ν ∷ []) {a.erow()} .own ({a.x}-at {a.x}-δ {val(a)}) ({a.val()} ∷ []))")); continue
+        if k == 'first':
+            κl.append(f"({a.x}-ν ∷ [])"); ql.append('fullShare'); tk.append((f"nu{a.i}", f"‵ (flft ({a.x}-ν ∷ []) fullShare)"))
+            al.append(f"{a.x}-first {a.x}-l {a.x}-δ (take {a.to} {a.x})"); vl.append(f"sliceVal ({a.x}-l, 0) {a.to} ∷ []"); it.append(f"o{a.i}")
+            own.append((f"o{a.i}", f"‵ (ShrSlice (named 0) ({a.x}-ν ∷ []) {a.erow()} .own ({a.x}-first {a.x}-l {a.x}-δ (take {a.to} {a.x})) (sliceVal ({a.x}-l, 0) {a.to} ∷ []))")); continue
+        if k in LOANS:
+            κl.append(f"({a.x}-ν ∷ [])"); ql.append('fullShare'); tk.append((f"nu{a.i}", f"‵ (flft ({a.x}-ν ∷ []) fullShare)"))
+            al.append(f"{a.x}-at {a.x}-l {a.x}-δ {val(a)}"); vl.append(f"vptr {a.x}-l 0 ∷ []"); it.append(f"o{a.i}")
+            own.append((f"o{a.i}", f"‵ ({'MutRef' if k == 'lend' else 'ShrRef'} (named 0) ({a.x}-ν ∷ []) {a.erow()} .own ({a.x}-at {a.x}-l {a.x}-δ {val(a)}) (vptr {a.x}-l 0 ∷ []))")); continue
         vl.append(f"{a.val()} ∷ []")
         if a.ref:
             if a in lnt: κl.append(f"({a.x}-ν ∷ [])"); ql.append('fullShare'); tk.append((f"nu{a.i}", f"‵ (flft ({a.x}-ν ∷ []) fullShare)"))
@@ -481,6 +554,12 @@ for p in P:
     else: w = f"({p.n.law('lawful')} .typed {p.x} _ (refl, {p.x}-fits) .0)"
     line += f"pass1 ! (init ! {c.at(p.i + 1)} refl {w}) $ "
 E(line + "pass0 ! $")
+for q in FIRST:
+    p = q.p; Rn = f"(Array {q.erow()} {q.len})"
+    E(f"        -- `{q.x}` is copied to a place in memory")
+    E(f"        assigns ! (of-opd ! (load ! (from ! (stop !)) (look ! {c.at(p.i + 1)} refl))) (from ! (stop !)) (init ! {c.at(q.at)} refl wt·{q.x}) $")
+    c.mv([f"k{p.i}"]); c.e(f"use1 W ({Own(p)} ⊛ {Own(p)}) ({p.copy()} .twice {q.x} ({q.x}-val ∷ []))"); c.split('own', f"k{p.i}")
+    c.mv([f"_{q.at}", 'own']); c.e(f"use2 W (In·{q.x} l{q.at}) (local-in {G} {q.erow()} {q.len} {q.x} l{q.at} {q.x}-val)"); c.l = [f"in{q.i}"] + c.l[2:]; c.say()
 VAL = {}                                                   # the values in between, as the walk names them
 DEST = {t.as_: t.dest for t in steps if t.as_}
 def copies(args):
@@ -488,14 +567,43 @@ def copies(args):
         if k == 'var':
             av, tv = VAL.get(a, a), VAL.get(f"{a}-tv", f"{a}-tv"); it = f"‵ ({RV[a][1]} .own {av} ({tv} ∷ []))"
             c.mv([f"k·{a}"]); c.e(f"use1 W ({it} ⊛ {it}) ({RV[a][3]} .twice {av} ({tv} ∷ []))"); c.split(f"o·{a}", f"k·{a}")
-        elif not a.fresh and not a.mut:
+        elif k == 'par' and not a.fresh and not a.mut:
             c.mv([f"k{a.i}"]); c.e(f"use1 W ({Own(a)} ⊛ {Own(a)}) ({a.copy()} .twice {a.arg()} ({a.val()} ∷ []))"); c.split(f"o{a.i}", f"k{a.i}")
 def operands(args, loc):
     opd = "(no-more !)"
     for i, (k, a) in reversed(list(enumerate(args))): opd = f"(and-then ! (load ! (from ! (stop !)) (look ! {c.at(loc(i, k, a))} refl)) {opd})"
     return opd
 cur = {p.x: f"{p.x}-now" for p in muts}
+def lend_local(k, q, j):
+    """the local array is lent for a new lifetime: [its reference; the lender's part]"""
+    global pn
+    l, v, ν, δ = f"l{q.at}", cur[q.x], f"{q.x}-ν·{j}", f"{q.x}-δ·{j}"
+    c.say(); E(f"        lft-new ! tt (λ {ν}."); pn += 1; c.l = [f"nu{q.i}"] + c.l
+    c.mv([f"in{q.i}"]); R_, ref = q.erow(), f"({q.x}-at {l} {{}} {v})"
+    if k == 'lend':
+        own_, way, law = f"MutRef (named 0) ({ν} ∷ []) {R_} .own ({q.x}-at {l} δ {v}) (vptr {l} 0 ∷ [])", f"flent ({ν} ∷ []) (Body (mem {R_}) {l} 0 δ)", f"lends-ref {G} {R_} (named 0) ({ν} ∷ []) {v} {l} 0"
+    else:
+        own_, way, law = f"ShrRef (named 0) ({ν} ∷ []) {R_} .own ({q.x}-at {l} δ {v}) (vptr {l} 0 ∷ [])", f"flent ({ν} ∷ []) (partAt {R_} fullShare {v} {l} 0)", f"lends-shr {G} {R_} (named 0) ({ν} ∷ []) fullShare {v} {l} 0"
+    c.e(f"use1 W (later (some (λ (δ : GName). ‵ ({own_}) ⊛ ‵ ({way})))) ({law})"); c.e("await ! tt")
+    c.say(); E(f"        pick ! (λ {δ}."); pn += 1
+    c.l = ['both'] + c.l[1:]; c.split(f"o{q.i}", f"way{q.i}")
+    VAL[f"{q.x}-l"], VAL[f"{q.x}-ν"], VAL[f"{q.x}-δ"] = l, ν, δ
+def back_local(k, q, j, new):
+    """its lifetime is over: it is in memory again"""
+    l, ν, δ = f"l{q.at}", f"{q.x}-ν·{j}", f"{q.x}-δ·{j}"
+    c.mv([f"nu{q.i}"]); c.e("lft-end ! tt")
+    if k == 'lend':
+        c.mv([f"nu{q.i}", f"way{q.i}", f"last{q.i}"]); c.e(f"use3 W (later (In·{q.x} {l} {new})) (ref-back {G} {q.erow()} ({ν} ∷ []) {δ} {new} {l} 0)"); c.e("await ! tt"); c.l = [f"in{q.i}"] + c.l[3:]
+    else: c.mv([f"nu{q.i}", f"way{q.i}"]); c.e("lent-back ! tt"); c.l = [f"in{q.i}"] + c.l[2:]
 for t in steps:
+    if t.zeros:
+        q = t.zeros; z = f"(replicate {q.len} 0)"; zv = f"(arrayVal (replicate {q.len} ({q.n.val('0')})))"; E(f"        -- `{q.x}`: [{'; '.join(y for y in c.l if y[0] not in '_d')}]"); c.say()
+        c.e(f"owned ! {q.n.t} (Is {q.n.t}) ({q.n.law('makes')}) 0 _ (refl, lit< tt)"); c.l = ['own'] + c.l
+        c.e(f"use1 W (‵ ({q.erow()} .own {z} ({zv} ∷ []))) (array-repeat {G} {q.n.t} ({q.n.law('copy')}) {q.len} 0 ({q.n.val('0')}))")
+        c.say(); E(f"        peeks ! {q.erow()} (Is {q.erow()}) (shows 𝓤 H A {q.erow()}) {z} ({zv} ∷ []) (λ is·{q.x}."); pn += 1
+        E(f"        assigns ! (rep ! {q.len} (lit ! tt)) (from ! (stop !)) (init ! {c.at(q.at)} refl ({t.law} .typed {z} _ is·{q.x} .0)) $")
+        c.mv([f"_{q.at}", 'own']); c.e(f"use2 W (In·{q.x} l{q.at} {z}) (local-in {G} {q.n.t} {q.len} {z} l{q.at} {zv})"); c.l = [f"in{q.i}"] + c.l[2:]; c.say()
+        cur[q.x] = z; VAL[q.first] = z; t.eqn = []; continue
     if t.len:
         x = t.len.x; E(f"        -- the length of `{x}`: [{'; '.join(y for y in c.l if y[0] not in '_d')}]"); c.say()
         E(f"        assigns ! (of-opd ! (load ! (from ! (fld ! refl (stop !))) (look-in ! {c.at(t.len.i + 1)} (sub ! 1 refl (whole !))))) (from ! (stop !)) (init ! {c.at(t.dest)} refl (tt, record {{ fits = room·{x} .0 }})) $")
@@ -504,8 +612,22 @@ for t in steps:
     cc, d, cn, ws = t.c, dash(base(t.fn)), CN[t.fn], f"ws·{t.j}"
     E(f"        -- `{base(t.fn)}`: [{'; '.join(x for x in c.l if x[0] not in '_d')}]")
     copies(t.args)
-    for i, p in t.lent: c.say(); E(f"        assigns ! (addr ! (from ! (hop ! (look ! {c.at(p.i + 1)} refl) (stop !)))) (from ! (stop !)) (init ! {c.at(t.tmp[i])} refl (tt, tt)) $")
+    for i, (k, p) in enumerate(t.args):
+        if i not in t.tmp: continue
+        at = "(from ! (stop !))" if k in LOANS else f"(from ! (hop ! (look ! {c.at(p.i + 1)} refl) (stop !)))"
+        c.say(); E(f"        assigns ! (addr ! {at}) (from ! (stop !)) (init ! {c.at(t.tmp[i])} refl (tt, tt)) $")
+    for k, p in t.args:
+        if k in LOANS: lend_local(k, p, t.j)
+        if k == 'reshare':
+            x, v, ν, δ = p.x, cur[p.x], f"{p.x}-ν·{t.j}", f"{p.x}-δ·{t.j}"; κ = lft[p.i]
+            c.say(); E(f"        lft-new ! tt (λ {ν}."); pn += 1; c.l = [f"nu{p.i}"] + c.l
+            c.mv([f"o{p.i}", f"lf{κ}"])
+            c.e(f"use2 W (later (some (λ (δ : GName). ‵ (ShrRef (named {κ}) ({ν} ∷ []) {p.erow()} .own ({x}-at δ {v}) ({x}-val ∷ [])) ⊛ ‵ (SharedAgain {p.erow()} κ{κ} ({ν} ∷ []) q{κ} {x}-γ {x}-b {x}-o {v})))) (shares-again {G} {p.erow()} (named {κ}) κ{κ} ({ν} ∷ []) q{κ} {x}-γ {x}-b {x}-o {v} (named {κ}))"); c.e("await ! tt")
+            c.say(); E(f"        pick ! (λ {δ}."); pn += 1
+            c.l = ['both'] + c.l[2:]; c.split(f"s{p.i}", f"again{p.i}")
+            VAL[f"{x}-ν"], VAL[f"{x}-δ"] = ν, δ
     for i, p in t.lent:
+        if p.kind == 'local': continue
         k, x, v = lft[p.i], p.x, cur[p.x]
         c.say(); E(f"        lft-new ! tt (λ {x}-ν·{t.j}."); pn += 1; c.l = [f"nu{p.i}"] + c.l
         c.mv([f"o{p.i}", f"lf{k}"]); ν, δ = f"{x}-ν·{t.j}", f"{x}-δ·{t.j}"
@@ -520,7 +642,7 @@ for t in steps:
     c.e(f"use1 W (raw ({cn} {AR} .pre (to·s{t.j}{sub_(cc['ps'])}))) (goes·s{t.j}{sub_(cc['ps'])})"); c.l = ['pre'] + c.l[1:]
     c.say()
     rn = t.as_ or f"r·{t.j}"
-    opd = operands(t.args, lambda i, k, a: DEST[a] if k == 'var' else t.tmp[i] if a.mut else a.i + 1)
+    opd = operands(t.args, lambda i, k, a: DEST[a] if k == 'var' else t.tmp[i] if i in t.tmp else a.i + 1)
     E(f"        calls-at ! fm ({cn} {AR}) known·{d} (to·s{t.j}{sub_(cc['ps'])}) {opd} (λ {rn}-tv.")
     # the callee's lifetimes and arguments, at the walk's names
     env = dict(VAL)
@@ -529,7 +651,7 @@ for t in steps:
     κl, al = at_walk(cc['κl']), at_walk(cc['al'])
     tks = nesttok([at_walk(x) for _, x in cc['tk']])
     E(f"        use1 W (later (some (λ ({rn} : {t.ty}). ({tks} ⊛ ‵ ({t.row} .own {rn} ({rn}-tv ∷ []))) ⊛ raw (ensured 𝓤 H A {d}-f.ended ({d}-f.clauses {AR}) {κl} {al} tt {rn})))) (id⊢ 𝓤 _) $ await ! tt $ pick ! (λ {rn}.")
-    lty = prod([a.now() if k == 'par' and a.mut else 'Unit {0}' for k, a in t.args])
+    lty = prod([a.now() if k == 'lend' or k == 'par' and a.mut else 'Unit {0}' for k, a in t.args])
     eqs = [f"({rn if w == 'r' else ws + path(w[1])} ≡ {at_walk(e)})" for w, e in t.eqs]
     if LEM:
         here = dict(VAL); here.update({v: f"({ws}{path(i)})" for i, p in t.lent for v in [t.new[p.x]]})
@@ -541,7 +663,7 @@ for t in steps:
     E(f"        split ! $ move ! (1 ∷ []) $ heard ! {fact_} (λ e·{t.j}."); pn += 4
     c.l = ['lasts', 'tokres'] + c.l[1:]
     for i, (k, a) in enumerate(t.args):
-        m = k == 'par' and a.mut
+        m = k == 'lend' or k == 'par' and a.mut
         c.mv(['lasts']); c.split(f"last{a.i}" if m else 'x', 'lasts', True)
         if not m: c.drop('x')
     c.drop('lasts'); c.mv(['tokres']); c.split('toks', 'res'); open_toks(c, [x for x, _ in cc['tk']]); c.mv(['res']); c.say()
@@ -549,7 +671,18 @@ for t in steps:
     E(f"        land ! (from ! (stop !)) ({'init' if t.first else 'stores'} ! {c.at(t.dest)} refl ({t.law} .typed {rn} _ is·{t.j} .0)) $")
     if t.as_: c.l[c.ix('res')] = f"k·{t.as_}"
     else: c.drop('res')
+    if t.as_ in [q.to for q in FIRST]: c.e(f"rewrite ! {c.at(t.dest)} (λ (z : Val). ‵ (fat fullShare (tyInt w64) l{t.dest} 0 z)) (ap only (uint-tells w64 {rn} ({rn}-tv ∷ []) is·{t.j})) refl"); t.is_ = f"is·{t.j}"
+    for i, (k, p) in enumerate(t.args):
+        if k == 'reshare':
+            ν, κ = f"{p.x}-ν·{t.j}", lft[p.i]
+            c.mv([f"nu{p.i}"]); c.e("lft-end ! tt"); c.mv([f"nu{p.i}", f"again{p.i}"])
+            c.e(f"use2 W (later ({Own(p)} {cur[p.x]} ⊛ ‵ (flft κ{κ} q{κ}))) (shared-back {G} {p.erow()} (named {κ}) κ{κ} ({ν} ∷ []) q{κ} {p.x}-γ {p.x}-b {p.x}-o {cur[p.x]})"); c.e("await ! tt")
+            c.l = ['both'] + c.l[2:]; c.split(f"o{p.i}", f"lf{κ}")
+        if k not in LOANS: continue
+        new = f"({ws}{path(i)})" if k == 'lend' else cur[p.x]; back_local(k, p, t.j, new)
+        if k == 'lend': cur[p.x] = new; VAL[t.new[p.x]] = new
     for i, p in t.lent:
+        if p.kind == 'local': continue
         k, x, v = lft[p.i], p.x, cur[p.x]; ν, δ = f"{x}-ν·{t.j}", f"{x}-δ·{t.j}"
         c.mv([f"nu{p.i}"]); c.e("lft-end ! tt"); c.mv([f"nu{p.i}", f"again{p.i}", f"last{p.i}"])
         c.e(f"use3 W (later ({Own(p)} ({ws}{path(i)}) ⊛ ‵ (flft κ{k} q{k}))) (comes-back {G} {p.erow()} (named {k}) κ{k} ({ν} ∷ []) q{k} {x}-γ {x}-b {x}-o {δ} {v} ({ws}{path(i)}))"); c.e("await ! tt")
@@ -560,13 +693,26 @@ for t in steps:
 inn = S['inner']; ik = CN[inn]; idn = dash(base(inn))
 E(f"        -- `{base(inn)}`: [{'; '.join(x for x in c.l if x[0] not in '_d')}]")
 copies(fin_args); c.say()
-for p in [a for k, a in fin_args if k == 'par' and a.mut]:
+for p in [a for k, a in fin_args if k == 'first' or k in LOANS or k == 'par' and a.mut]:
+    if p.kind == 'first':
+        t0, t1 = tmp[p.i]; st = [t for t in steps if t.as_ == p.to][0]
+        E(f"        assigns ! (addr ! (from ! (stop !))) (from ! (stop !)) (init ! {c.at(t0)} refl (tt, tt)) $")
+        E(f"        assigns ! (agg ! (and-then ! (load ! (from ! (stop !)) (look ! {c.at(t0)} refl)) (and-then ! (load ! (from ! (stop !)) (look ! {c.at(st.dest)} refl)) (no-more !)))) (from ! (stop !)) (init ! {c.at(t1)} refl (tt, (tt, (record {{ fits = {st.is_} .1 }}, tt)))) $"); continue
+    if p.kind == 'local':
+        E(f"        assigns ! (addr ! (from ! (stop !))) (from ! (stop !)) (init ! {c.at(tmp[p.i][0])} refl (tt, tt)) $"); continue
     o = c.at(p.i + 1); tt_ = [c.at(k) for k in tmp[p.i]]
     if p.kind == 'mutref':
         E(f"        assigns ! (addr ! (from ! (hop ! (look ! {o} refl) (stop !)))) (from ! (stop !)) (init ! {tt_[0]} refl (tt, tt)) $")
     else:
         E(f"        assigns ! (addr ! (from ! (fld ! refl (hop ! (look-in ! {o} (sub ! 0 refl (whole !))) (stop !))))) (from ! (stop !)) (init ! {tt_[0]} refl (tt, tt)) $")
         E(f"        assigns ! (agg ! (and-then ! (load ! (from ! (stop !)) (look ! {tt_[0]} refl)) (and-then ! (load ! (from ! (fld ! refl (stop !))) (look-in ! {o} (sub ! 1 refl (whole !)))) (no-more !)))) (from ! (stop !)) (init ! {tt_[1]} refl (tt, (tt, (record {{ fits = room·{p.x} .0 }}, tt)))) $")
+for k, p in fin_args:
+    if k in LOANS: lend_local(k, p, 'last')
+    if k == 'first':
+        l, ν, δ, x, R_ = f"l{p.at}", f"{p.x}-ν", f"{p.x}-δ", p.x, p.erow()
+        c.say(); E(f"        lft-new ! tt (λ {ν}."); pn += 1; c.l = [f"nu{p.i}"] + c.l; c.mv([f"in{p.i}"])
+        c.e(f"use1 W (later (some (λ (δ : GName). ‵ (ShrSlice (named 0) ({ν} ∷ []) {R_} .own ({x}-first {l} δ (take {p.to} {x})) (sliceVal ({l}, 0) {p.to} ∷ [])) ⊛ ‵ (FirstLent {R_} ({ν} ∷ []) {p.len} {p.to} {x} {l})))) (lends-first {G} {R_} ({ν} ∷ []) {p.len} {p.to} {x} {l} (named 0) tt {p.bound} (room-first {R_} {p.to} {p.len} {p.bound} (lit< tt, lit< tt)))"); c.e("await ! tt")
+        c.say(); E(f"        pick ! (λ {δ}."); pn += 1; c.l = ['both'] + c.l[1:]; c.split(f"o{p.i}", f"way{p.i}"); VAL[f"{x}-l"] = l
 fp = ''.join(f" {VAL.get(x, x)}" for x in fc['ps'])
 if fc['labels'] == ['true']: c.nothing()
 else: c.mv(fc['labels'])
@@ -576,21 +722,23 @@ c.say()
 import re
 at_walk = lambda s: re.sub(r'[^\s()\[\],∷]+', lambda m: VAL.get(m.group(0), m.group(0)), s)
 iκ, iarg = at_walk(fc['κl']), at_walk(fc['al'])
-opd = operands(fin_args, lambda i, k, a: DEST[a] if k == 'var' else tmp[a.i][-1] if a.mut else a.i + 1)
+opd = operands(fin_args, lambda i, k, a: DEST[a] if k == 'var' else tmp[a.i][-1] if k == 'first' or k in LOANS or a.mut else a.i + 1)
 E(f"        calls-at ! fm ({ik} {AR}) known·{idn} (to·inner{fp}) {opd} (λ u.")
-E(f"        use1 W (later (some (λ (r : {R}). ({nesttok([x for _, x in fc['tk']])} ⊛ ‵ ({RT} .own r (u ∷ []))) ⊛ raw (ensured 𝓤 H A {idn}-f.ended ({idn}-f.clauses {AR}) {iκ} {iarg} tt r)))) (id⊢ 𝓤 _) $ await ! tt $ pick ! (λ r.")
-lty = prod([a.now() if k == 'par' and a.mut else 'Unit {0}' for k, a in fin_args])
+E(f"        use1 W (later (some (λ (r : {R}). ({nesttok([at_walk(x) for _, x in fc['tk']])} ⊛ ‵ ({RT} .own r (u ∷ []))) ⊛ raw (ensured 𝓤 H A {idn}-f.ended ({idn}-f.clauses {AR}) {iκ} {iarg} tt r)))) (id⊢ 𝓤 _) $ await ! tt $ pick ! (λ r.")
+lty = prod([a.now() if k == 'lend' or k == 'par' and a.mut else 'Unit {0}' for k, a in fin_args])
 fpos = {a.x: i for i, (k, a) in enumerate(fin_args) if k == 'par'}
 wsp = ''.join(f" (ws{path(fpos[p.x])})" for p in muts)
 vv = ''.join(f" {VAL.get(v, v)}" for v in vn)
-said = f"(Said{'·last' if LEM else len(VARS)}{vv} r{wsp})"
-E(f"        split ! $ move ! (1 ∷ []) $ use1 W (some (λ (ws : {lty}). ‵ (lasts {idn}-f.ended {iκ} {iarg} ws) ⊛ raw (fact 𝓤 {said}))) (id⊢ 𝓤 _) $ pick ! (λ ws.")
-E(f"        split ! $ move ! (1 ∷ []) $ heard ! {said} (λ e.")
-pn += 4
+saids = [f"(Said·{j}{vv} r{wsp})" for j in range(len(SAID))] if len(SAID) > 1 else [f"(Said{'·last' if LEM else len(VARS)}{vv} r{wsp})"]
+facts_ = f"raw (fact 𝓤 {saids[-1]})"
+for q in reversed(saids[:-1]): facts_ = f"(raw (fact 𝓤 {q}) ⊛ {facts_})"
+E(f"        split ! $ move ! (1 ∷ []) $ use1 W (some (λ (ws : {lty}). ‵ (lasts {idn}-f.ended {iκ} {iarg} ws) ⊛ {facts_})) (id⊢ 𝓤 _) $ pick ! (λ ws.")
+E("        split ! $ move ! (1 ∷ []) $ " + ''.join(("split ! $ " if j < len(saids) - 1 else '') + f"heard ! {q} (λ e{j if len(saids) > 1 else ''}. " for j, q in enumerate(saids)).rstrip())
+pn += 3 + len(saids)
 c.l = ['lasts', 'tokres'] + c.l[1:]
 for k, a in fin_args:
-    m = k == 'par' and a.mut
-    c.mv(['lasts']); c.split(f"fin{a.i}" if m else 'x', 'lasts', True)
+    m = k == 'lend' or k == 'par' and a.mut
+    c.mv(['lasts']); c.split(('last' if k == 'lend' else 'fin') + f"{a.i}" if m else 'x', 'lasts', True)
     if not m: c.drop('x')
 c.drop('lasts')
 for p in lens:
@@ -602,15 +750,23 @@ if UNIT:
     c.drop('res'); c.say()
     E(f"        assigns ! (of-opd ! (unit-lit !)) (from ! (stop !)) (init ! {c.at(0)} refl (tt, tt)) $")
     c.e("feqI ! (List Val) (vunit ∷ []) (vunit ∷ []) refl"); c.l = ['res'] + c.l
+for i, (k, q) in enumerate(fin_args):
+    if k == 'first':
+        c.mv([f"nu{q.i}"]); c.e("lft-end ! tt"); c.mv([f"nu{q.i}", f"way{q.i}"]); c.e(f"use2 W (later (In·{q.x} l{q.at})) (first-back {G} {q.erow()} ({q.x}-ν ∷ []) {q.len} {q.to} {q.x} l{q.at})"); c.e("await ! tt"); c.l = [f"in{q.i}"] + c.l[2:]
+    if k not in LOANS: continue
+    new = f"(ws{path(i)})" if k == 'lend' else cur[q.x]; back_local(k, q, 'last', new); cur[q.x] = new
 c.e(f"returns ! (look ! {c.at(0)} refl)")
-for k in reversed(range(N)): c.e(f"forget ! {c.at(k)} refl")
+for q in LOC.values(): c.mv([f"in{q.i}"]); c.e(f"use1 W (‵ (froom (tyArray ({q.n.mir()}) {q.len}) l{q.at} 0)) (local-room {G} {q.n.t} {q.len} {cur[q.x]} l{q.at})"); c.l = [f"_{q.at}"] + c.l[1:]
+for q in FIRST: c.mv([f"in{q.i}"]); c.e(f"use1 W (‵ (froom (tyArray ({q.p.n.mir()}) {q.len}) l{q.at} 0)) (local-room {G} {q.erow()} {q.len} {q.x} l{q.at})"); c.l = [f"_{q.at}"] + c.l[1:]
+for k in reversed(range(N)):
+    if k not in [q.at for q in [*LOC.values(), *FIRST]]: c.e(f"forget ! {c.at(k)} refl")
 for k in range(N): c.mv([f"_{k}", f"d{k}"]); c.e("free1 !"); c.l = c.l[2:]
 c.e("free0 !")
 final = [f"lf{k}" for k in range(L)] + [(f"fin{p.i}" if p.mut else f"k{p.i}") for p in P if not p.fresh] + ['res']
 c.e("keep ! (" + ' ∷ '.join(str(c.ix(x)) for x in final) + " ∷ [])")
 c.say()
-ev = "e"; eqn = [q for t in steps for q in t.eqn]
-if LEM: ev = f"(given·here{vv} r{wsp}{''.join(f' {t.ev}' for t in steps)} e)"
+ev = nest([f"e{j}" for j in range(len(saids) - 1)], f"e{len(saids) - 1}") if len(saids) > 1 else "e"; eqn = [q for t in steps for q in t.eqn]
+if LEM: ev = f"(given·here{vv} r{wsp}{''.join(f' {t.ev}' for t in steps)} {ev})"
 for k in reversed(range(len(VARS))) if not LEM else ():
     pre_ = ''.join(f" {VAL.get(v, v)}" for v in vn[:k])
     ev = f"(subst (λ (z : {vt[k]}). Said{k + 1}{pre_} z r{wsp}) {eqn[k]} {ev})"
@@ -626,7 +782,7 @@ def vls(p):
 def tells(p):
     if p.kind in ('struct', 'enum'): return f"{p.d.L}.tells {p.d.both()}"
     if p.fresh: return p.n.law('tells')
-    if p.kind == 'array': return f"array-tells {p.n.t} ({p.n.law('vals')}) ({p.n.law('tells')}) {p.p['len']}"
+    if p.kind == 'array': return f"array-tells {erow_of(p.n)} ({p.n.law('vals')}) ({p.n.law('tells')}) {p.p['len']}"
     return {'rows': 'shr-slice-tells', 'shr': 'shr-slice-tells', 'mut': 'mut-slice-tells', 'mutref': 'mut-tells', 'shrref': 'shr-tells'}[p.kind] + f" (named {lft[p.i]}) (κs{path(lft[p.i])}) {p.erow()}"
 E(f"  {F}-walks = walked 𝓤 H A f.ended stayed (f.clauses {AR}) (WpFn 𝓤 H (𝓣 .C) (𝓣 .Λ) code.function) (λ κs. {nest([vls(p) for p in P])}) (λ κs. {nest([tells(p) for p in P])})")
 ap = [f"(κs{path(k)}) (qs{path(k)})" for k in range(L)]; hp = []

@@ -4,7 +4,7 @@ use mathlib.Core.List.{_∷_, []}
 use mathlib.Core.Option.{none, some}
 use lib.IntN.{pos, negsuc}
 use Rattle.decimal.specs.Read.{given, isDigit, readOn, plain, readNumber, atMost, readUnsigned, plus, minus, readSignedBy, readSigned}
-use Rattle.group_order.specs.Entry.{setEnd}
+use Rattle.rules.specs.Entry.{setEnd}
 use Rattle.fields.specs.Fields.{lengthen, fieldsOf, fieldAt, only, upTo, byte, word, long, number}
 use Rattle.call_line.specs.Line.{offers, gaps, releases, _⊛_, optional, guidOf, guid, numberIf, sized, pairIn, offerLine, countedLine, sampleLine, endLine, gapLine, releaseLine, lineBy, lineOf}
 

@@ -7,9 +7,9 @@ use mathlib.Core.Option.{none}
 use borrow.Author.Tests.{ne-eqb}
 use lib.Dec.{eqb}
 use lib.ListN.{length}
-use Rattle.group_order.specs.Entry.{What, sample, setEnd}
-use Rattle.group_order.specs.Sets.{Pair}
-use Rattle.history.specs.Records.{optionalAs}
+use Rattle.rules.specs.Entry.{What, sample, setEnd}
+use Rattle.rules.specs.Sets.{Pair}
+use Rattle.store.specs.Records.{optionalAs}
 use Rattle.history.specs.Calls.{digestAs}
 use Rattle.fields.specs.Fields.{fieldsOf, byte, word, long, number, fieldAt, only, told}
 use Rattle.call_line.specs.Line.{starts, counts, digests, offers, heartbeats, gaps, releases, guidOf, guid, numberIf, wordIf, pairIn, offerLine, startLine, countedLine, digestLine, sampleLine, endLine, heartbeatLine, gapLine, releaseLine, lineBy, lineOf}

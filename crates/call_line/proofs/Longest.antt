@@ -11,7 +11,7 @@ use lib.ListN.{length, getD, take}
 use lib.Seq.{take-all, length-take-le}
 use Rattle.decimal.specs.Read.{atMost}
 use Rattle.decimal.proofs.Lengths.{unsigned-long, signed-long}
-use Rattle.group_order.proofs.Lists.{none-some}
+use Rattle.laws.proofs.Lists.{none-some}
 use Rattle.fields.specs.Fields.{lengthen, fieldsOf, fieldAt, only, upTo, byte, word, long, number}
 use Rattle.call_line.specs.Line.{_⊛_, optional, guidOf, guid, numberIf, wordIf, sized, pairIn, offerLine, startLine, countedLine, digestLine, sampleLine, endLine, heartbeatLine, gapLine, releaseLine, lineBy, lineOf}
 use Rattle.fields.proofs.Fields.{some-field}

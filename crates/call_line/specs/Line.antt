@@ -7,11 +7,11 @@ use lib.Dec.{eqb}
 use lib.IntN.{ℤ}
 use lib.ListN.{length, replicate}
 use Rattle.fields.specs.Fields.{fieldsOf, fieldAt, only, byte, word, long, number}
-use Rattle.group_order.specs.Guid.{Guid}
-use Rattle.group_order.specs.Entry.{What, sample, setEnd}
-use Rattle.group_order.specs.Offer.{Offer, Heartbeat, Gap}
-use Rattle.group_order.specs.Sets.{Pair}
-use Rattle.group_order.specs.Commit.{DigestRow}
+use Rattle.guids.specs.Guid.{Guid}
+use Rattle.rules.specs.Entry.{What, sample, setEnd}
+use Rattle.rules.specs.Offer.{Offer, Heartbeat, Gap}
+use Rattle.rules.specs.Sets.{Pair}
+use Rattle.rules.specs.Commit.{DigestRow}
 
 -- a fresh start with its timeout, a counted row, a digest row, a call of the history; a release has its time alone
 pub data Line : Type 0 where

@@ -1,10 +1,10 @@
 -- What a parsed line stands for.
 use Prim.Native.Nat.{ℕ}
 use mathlib.Core.Option.{Option, none, some}
-use Rattle.group_order.specs.Offer as O
-use Rattle.group_order.specs.Sets.{Pair}
-use Rattle.group_order.specs.Commit.{DigestRow}
-use Rattle.history.specs.Records.{optionalAs, whatAs}
+use Rattle.rules.specs.Offer as O
+use Rattle.rules.specs.Sets.{Pair}
+use Rattle.rules.specs.Commit.{DigestRow}
+use Rattle.store.specs.Records.{optionalAs, whatAs}
 use Rattle.history.specs.Calls.{digestAs}
 use Rattle.call_line.specs.Line.{Line, starts, counts, digests, offers, heartbeats, gaps, releases, guidOf}
 use Rattle.call_line.specs.declared.line.LinePair.{LinePair}

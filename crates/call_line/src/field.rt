@@ -2,10 +2,10 @@
 use fields::number_at;
 use fields::only_byte;
 use fields::word_at;
-use history::entry::Optional;
 use history::order::Digest;
+use store::entry::Optional;
 ghost use mathlib.Core.Path.{_≡_};
-ghost use Rattle.history.specs.Records.{optionalAs};
+ghost use Rattle.store.specs.Records.{optionalAs};
 ghost use Rattle.history.specs.Calls.{digestAs};
 ghost use Rattle.fields.specs.Fields.{told};
 ghost use Rattle.call_line.specs.Line.{numberIf, wordIf};

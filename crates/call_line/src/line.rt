@@ -1,12 +1,12 @@
 // What a line spells, with a GUID by its number k: fifteen zero bytes and k.
 use group_view::view::DigestRow;
 use group_view::view::Pair;
-use history::entry::Optional;
-use history::entry::What;
 use history::order::Digest;
 use history::order::Gap;
 use history::order::Heartbeat;
 use history::order::Offer;
+use store::entry::Optional;
+use store::entry::What;
 ghost use mathlib.Core.Path.{_≡_};
 ghost use Rattle.history.specs.Calls.{offerAs, heartbeatAs, gapAs};
 ghost use Rattle.group_view.specs.View.{pairAs, digestRowAs};

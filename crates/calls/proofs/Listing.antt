@@ -12,9 +12,9 @@ use Rattle.decimal.specs.Split.{stopOr, before, fieldEnd}
 use Rattle.decimal.proofs.Splitting.{before-le, end-within}
 use Rattle.decimal.specs.Print.{put}
 use Rattle.decimal.proofs.Putting.{put-none, put-next, put-front}
-use Rattle.group_order.specs.State.{fresh}
+use Rattle.rules.specs.State.{fresh}
 use Rattle.group_view.specs.View.{Cleared}
-use Rattle.history.specs.Store.{stateOf}
+use Rattle.store.specs.Store.{stateOf}
 use Rattle.fields.specs.Fields.{lengthen}
 use Rattle.call_line.specs.Line.{Line, lineOf}
 use Rattle.calls.specs.Run.{Calls, begun, runIf, runLine, linesOf, runLines, runText}

@@ -8,15 +8,15 @@ use borrow.Author.Tests.{ltb-true, lt-ltb}
 use lib.Dec.{eqb, ltb}
 use lib.ListN.{length, getD, take, drop, length-append}
 use Rattle.decimal.specs.Print.{digitsOf}
-use Rattle.group_order.specs.Lists.{keep, all, count}
-use Rattle.group_order.specs.Entry.{What, sample, setEnd, Entry, isSampleW, isSample}
-use Rattle.group_order.specs.Release.{View, released}
-use Rattle.group_order.specs.Run.{placeW, placeOf}
-use Rattle.group_order.proofs.Lists.{not-both, and-left, and-right, not-true, all-map, all-keep, all-take, count-zero}
-use Rattle.group_order.proofs.Conserve.{stock, released-stock}
-use Rattle.group_view.specs.Table.{rows, table}
-use Rattle.group_view.proofs.Table.{all-rows}
-use Rattle.history.specs.Store.{tag, optional, rowOf, rowsIn, rowsOf, staged, stateOf}
+use Rattle.laws.specs.Lists.{keep, all, count}
+use Rattle.rules.specs.Entry.{What, sample, setEnd, Entry, isSampleW, isSample}
+use Rattle.rules.specs.Release.{View, released}
+use Rattle.rules.specs.Run.{placeW, placeOf}
+use Rattle.laws.proofs.Lists.{not-both, and-left, and-right, not-true, all-map, all-keep, all-take, count-zero}
+use Rattle.rules.proofs.Conserve.{stock, released-stock}
+use Rattle.laws.specs.Table.{rows, table}
+use Rattle.laws.proofs.Table.{all-rows}
+use Rattle.store.specs.Store.{tag, optional, rowOf, rowsIn, rowsOf, staged, stateOf}
 use Rattle.calls.specs.Run.{itemW, sampleText, samplesText}
 use Rattle.calls.specs.Said.{placeText, placesText}
 use Rattle.decimal.proofs.Lengths.{printed-low}

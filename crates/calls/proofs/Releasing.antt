@@ -8,20 +8,20 @@ use mathlib.Core.Option.{some}
 use native.Mathlib.Omega.{arith}
 use lib.ListN.{length, take, drop, length-append, length-map}
 use lib.Seq.{take-at}
-use Rattle.coherent_set.specs.Answer.{Answer, refused, answered}
+use Rattle.laws.specs.Answer.{Answer, refused, answered}
 use Rattle.decimal.specs.Print.{digitsOf}
-use Rattle.group_order.specs.Lists.{all}
-use Rattle.group_order.specs.Entry.{Entry, isSample}
-use Rattle.group_order.specs.State.{State, Counts}
-use Rattle.group_order.specs.Offer.{refusal}
-use Rattle.group_order.specs.Release.{View, Outcome, releaseRefusal, release, workOf}
-use Rattle.group_order.specs.Run.{placeOf, saidRelease, written}
-use Rattle.group_order.specs.Claim.{outcomeOf}
-use Rattle.group_order.proofs.Stays.{release-cases, released-stays}
-use Rattle.group_order.proofs.Conserve.{OnlySamples, only-samples}
+use Rattle.laws.specs.Lists.{all}
+use Rattle.rules.specs.Entry.{Entry, isSample}
+use Rattle.rules.specs.State.{State, Counts}
+use Rattle.rules.specs.Offer.{refusal}
+use Rattle.rules.specs.Release.{View, Outcome, releaseRefusal, release, workOf}
+use Rattle.rules.specs.Run.{placeOf, saidRelease, written}
+use Rattle.rules.specs.Claim.{outcomeOf}
+use Rattle.rules.proofs.Stays.{release-cases, released-stays}
+use Rattle.rules.proofs.Conserve.{OnlySamples, only-samples}
 use Rattle.group_view.specs.View.{more, viewOf}
-use Rattle.history.specs.Store.{stateOf}
-use Rattle.history.specs.Calls.{countOut, releaseTo, releaseNoted, Kept}
+use Rattle.store.specs.Store.{stateOf}
+use Rattle.release.specs.Released.{countOut, releaseTo, releaseNoted, Kept}
 use Rattle.call_line.specs.Line.{releases}
 use Rattle.calls.specs.Run.{Calls, rowsOf, refusedText, samplesText, countsText, outText, releaseText, runCall}
 use Rattle.calls.specs.Said.{Said, placesText}

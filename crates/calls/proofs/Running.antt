@@ -6,16 +6,16 @@ use mathlib.Core.List.{List}
 use mathlib.Core.Option.{Option, none, some}
 use native.Mathlib.Omega.{arith}
 use lib.ListN.{length}
-use Rattle.coherent_set.specs.Answer.{Answer, refused, answered}
+use Rattle.laws.specs.Answer.{Answer, refused, answered}
 use Rattle.decimal.specs.Print.{put}
 use Rattle.decimal.proofs.Lengths.{printed-long}
-use Rattle.group_order.specs.State.{State, fresh}
-use Rattle.group_order.specs.Offer.{Fate, isStored, isJoined, isLate}
+use Rattle.rules.specs.State.{State, fresh}
+use Rattle.rules.specs.Offer.{Fate, isStored, isJoined, isLate}
 use Rattle.group_view.specs.View.{pairAs, digestRowAs, Cleared, Noted, NotedDigest}
 use Rattle.group_view.specs.declared.view.Pair as P
 use Rattle.group_view.specs.declared.view.DigestRow as D
-use Rattle.history.specs.Store.{stateOf}
-use Rattle.history.specs.Calls.{Kept}
+use Rattle.store.specs.Store.{stateOf}
+use Rattle.release.specs.Released.{Kept}
 use Rattle.call_line.specs.Line.{Line, starts, counts, digests}
 use Rattle.calls.specs.Run.{Calls, withHistory, bad, ok, refusedText, offerText, doneText, runCall, runIf}
 use Rattle.calls.specs.Said.{Said}

@@ -7,16 +7,16 @@ use native.Mathlib.Omega.{arith}
 use borrow.Author.Tests.{ltb-true, ltb-false, lt-ltb}
 use lib.Dec.{ltb}
 use lib.ListN.{length, length-append}
-use Rattle.group_order.specs.Lists.{any}
-use Rattle.group_order.specs.State.{State, fresh}
-use Rattle.group_order.specs.Sets.{Pair}
-use Rattle.group_order.specs.Commit.{DigestRow}
-use Rattle.group_order.specs.Release.{View, malformed}
-use Rattle.group_order.proofs.Lists.{or-true-left, or-true-right, any-append, any-imp}
+use Rattle.laws.specs.Lists.{any}
+use Rattle.rules.specs.State.{State, fresh}
+use Rattle.rules.specs.Sets.{Pair}
+use Rattle.rules.specs.Commit.{DigestRow}
+use Rattle.rules.specs.Release.{View, malformed}
+use Rattle.laws.proofs.Lists.{or-true-left, or-true-right, any-append, any-imp}
 use Rattle.group_view.specs.View.{pairAs, digestRowAs, pairsOf, digestsOf, more, viewOf, Cleared, Noted, NotedDigest}
 use Rattle.group_view.specs.declared.view.Pair as P
 use Rattle.group_view.specs.declared.view.DigestRow as D
-use Rattle.history.specs.Store.{stateOf}
+use Rattle.store.specs.Store.{stateOf}
 use Rattle.call_line.specs.Line.{counts, digests}
 use Rattle.calls.specs.Run.{Calls, afresh, begun, rowsOf, withHistory, runCall}
 use Rattle.calls.specs.Runs.{StandRows, Stands}

@@ -6,13 +6,13 @@ use mathlib.Core.Bool.{false, true≢false}
 use mathlib.Core.List.{List, [], _∷_, _++_}
 use lib.ListN.{replicate, length-replicate}
 use mathlib.Core.Option.{Option, none, some}
-use Rattle.coherent_set.specs.Answer.{Answer, refused, answered}
-use Rattle.group_order.specs.State.{Counts, fresh}
-use Rattle.group_order.specs.Offer as O
-use Rattle.group_order.specs.Lists.{any}
-use Rattle.group_order.proofs.Lists.{or-left, or-right}
-use Rattle.group_order.specs.Release.{Outcome, release}
-use Rattle.group_order.specs.Run as R
+use Rattle.laws.specs.Answer.{Answer, refused, answered}
+use Rattle.rules.specs.State.{Counts, fresh}
+use Rattle.rules.specs.Offer as O
+use Rattle.laws.specs.Lists.{any}
+use Rattle.laws.proofs.Lists.{or-left, or-right}
+use Rattle.rules.specs.Release.{Outcome, release}
+use Rattle.rules.specs.Run as R
 use Rattle.call_line.specs.Line.{Line, starts, counts, digests, offers, heartbeats, gaps, releases, lineOf}
 use Rattle.calls.specs.Run.{Calls, afresh, begun, rowsOf, withHistory, offerText, doneText, releaseText, runIf, runCall, runLine}
 use Rattle.calls.specs.Steps.{saidText, stepped, callOf, isStart, inFront, after, callsOf}

@@ -5,14 +5,14 @@ use mathlib.Core.Bool.{cond}
 use mathlib.Core.List.{List, [], _∷_, _++_}
 use mathlib.Core.Option.{Option, none, some}
 use lib.Dec.{eqb}
-use Rattle.coherent_set.specs.Answer.{Answer, refused, answered}
+use Rattle.laws.specs.Answer.{Answer, refused, answered}
 use Rattle.decimal.specs.Print.{digitsOf}
-use Rattle.group_order.specs.Entry.{What, sample, setEnd, Entry}
-use Rattle.group_order.specs.State.{State, Counts, fresh}
-use Rattle.group_order.specs.Offer.{Fate, isStored, isJoined, isLate, offer, heartbeat, gap}
-use Rattle.group_order.specs.Sets.{Pair}
-use Rattle.group_order.specs.Commit.{DigestRow}
-use Rattle.group_order.specs.Release.{View, Outcome, release}
+use Rattle.rules.specs.Entry.{What, sample, setEnd, Entry}
+use Rattle.rules.specs.State.{State, Counts, fresh}
+use Rattle.rules.specs.Offer.{Fate, isStored, isJoined, isLate, offer, heartbeat, gap}
+use Rattle.rules.specs.Sets.{Pair}
+use Rattle.rules.specs.Commit.{DigestRow}
+use Rattle.rules.specs.Release.{View, Outcome, release}
 use Rattle.fields.specs.Fields.{lengthen}
 use Rattle.call_line.specs.Line.{Line, starts, counts, digests, offers, heartbeats, gaps, releases, lineOf}
 

@@ -4,8 +4,8 @@ use mathlib.Core.Bool.{Bool, true, false}
 use mathlib.Core.List.{List, [], _∷_}
 use mathlib.Core.Option.{Option, none, some}
 use lib.ListN.{replicate}
-use Rattle.group_order.specs.State.{Counts}
-use Rattle.group_order.specs.Run as R
+use Rattle.rules.specs.State.{Counts}
+use Rattle.rules.specs.Run as R
 use Rattle.call_line.specs.Line.{Line, starts, counts, digests, offers, heartbeats, gaps, releases, lineOf}
 use Rattle.calls.specs.Run.{Calls, rowsOf, withHistory, fateText, refusedText, ok, outText, runLine}
 

@@ -3,10 +3,11 @@ use decimal::put_bytes;
 use decimal::put_unsigned;
 use history::order::Accepted;
 use history::order::Offered;
-use history::order::ReleaseCounts;
+use readings::readings::ReleaseCounts;
 ghost use mathlib.Core.List.{_∷_, _++_};
 ghost use Rattle.decimal.specs.Print.{digitsOf};
-ghost use Rattle.history.specs.Calls.{offeredAs, toldAs, countsAs};
+ghost use Rattle.history.specs.Calls.{offeredAs, toldAs};
+ghost use Rattle.readings.specs.Counts.{countsAs};
 ghost use Rattle.calls.specs.Run.{bad, ok, refusedText, countsText, offerText, doneText};
 ghost use Rattle.calls.specs.Said.{Said, placeText, placesText};
 

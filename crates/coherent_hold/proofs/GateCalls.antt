@@ -11,10 +11,10 @@ use lib.Dec.{leb, eqb}
 use lib.ListN.{length, length-append}
 use lib.Seq.{paste}
 use borrow.Author.Tests.{leb-true, lt-ltb, le-ltb, le-leb, eq-eqb, ne-eqb}
-use Rattle.coherent_set.specs.Answer.{Answer, refused, answered}
-use Rattle.group_order.specs.Lists.{keep, count}
-use Rattle.group_order.proofs.Lists.{and-true, length-keep, length-split}
-use Rattle.coherent_hold.specs.Gate.{Kind, Item, ends, memberMark, isMember, leaves, Effect, passed, heldBack, ended, followed, after, gated, isFull, gate, wordsOf, written, Call, leftBy, gateCall, holdAs, answerAs, callAs, Kept}
+use Rattle.laws.specs.Answer.{Answer, refused, answered, Kept}
+use Rattle.laws.specs.Lists.{keep, count}
+use Rattle.laws.proofs.Lists.{and-true, length-keep, length-split}
+use Rattle.coherent_hold.specs.Gate.{Kind, Item, ends, memberMark, isMember, leaves, Effect, passed, heldBack, ended, followed, after, gated, isFull, gate, wordsOf, written, Call, leftBy, gateCall, holdAs, answerAs, callAs}
 use Rattle.coherent_hold.specs.declared.gate.CoherentHold.{CoherentHold}
 use Rattle.coherent_hold.specs.declared.gate.Gated.{Gated}
 use Rattle.coherent_hold.proofs.GateLaws.{written-none, written-length, written-more}

@@ -10,15 +10,14 @@ use lib.IntN.{ℤ, pos}
 use lib.Dec.{isEq}
 use lib.ListN.{length, take, drop, getD, set, length-append, length-map, length-take, length-drop, List·getD-map}
 use lib.Seq.{drop-cons, drop-drop, drop-append-add, take-suc, take-at, take-suc-set, getD-take, paste}
-use Rattle.group_order.specs.Lists.{keep}
-use Rattle.group_order.specs.Guid.{Guid, compareGuid, sameGuid}
-use Rattle.group_order.specs.Answers.{orderAs}
-use Rattle.group_order.specs.declared.guid.GuidOrder.{GuidOrder}
-use Rattle.group_order.proofs.Lists.{keep-last, keep-map, length-keep, none-some}
+use Rattle.laws.specs.Lists.{keep}
+use Rattle.guids.specs.Guid.{Guid, compareGuid, sameGuid, orderAs}
+use Rattle.guids.specs.declared.guid.GuidOrder.{GuidOrder}
+use Rattle.laws.proofs.Lists.{keep-last, keep-map, length-keep, none-some}
 use Rattle.coherent_hold.specs.Gate.{Kind, isSample, isLifecycle, isEnd, Item, ends, changes, memberMark, firstMark, wordsOf, words, written, memberAs, holdAs}
 use Rattle.coherent_hold.specs.declared.gate.Member.{Member}
 use Rattle.coherent_hold.specs.declared.gate.CoherentHold.{CoherentHold}
-use Rattle.filter_hold.proofs.Arrays.{keep-more}
+use Rattle.laws.proofs.Arrays.{keep-more}
 
 -- ---- lists
 

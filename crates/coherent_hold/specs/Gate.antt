@@ -1,20 +1,19 @@
 -- The coherent-set gate of one reader (document 01, "Gate, marker, scopes, filter hold" and "Operations"; DDSI-RTPS 2.5 §8.7.6).
-use Prim.{Unit}
 use Prim.Native.Nat.{ℕ, _+_, _*_, _/_}
-use mathlib.Core.Path.{_≡_}
 use mathlib.Core.Bool.{Bool, true, false, _&&_, not, cond}
 use mathlib.Core.List.{List, [], _∷_, _++_, map}
 use mathlib.Core.Option.{Option, some, none}
 use lib.IntN.{ℤ, pos, _-ℤ_}
 use lib.Dec.{ltb, leb, eqb}
-use lib.ListN.{length, take, drop}
+use lib.ListN.{length, take, drop, replicate}
 use mir.Syntax.{w64}
 use mir.Val.{ofZ}
-use Rattle.coherent_set.specs.Answer.{Answer, refused, answered, eqZ}
-use Rattle.coherent_set.specs.Marker.{numberOf}
-use Rattle.group_order.specs.Lists.{keep, count}
-use Rattle.group_order.specs.Guid.{Guid, sameGuid}
-use Rattle.history.specs.Records.{optionalAs}
+use Rattle.laws.specs.Answer.{Answer, refused, answered}
+use Rattle.laws.specs.Whole.{eqZ}
+use Rattle.laws.specs.Bytes.{numberOf}
+use Rattle.laws.specs.Lists.{keep, count}
+use Rattle.guids.specs.Guid.{Guid, sameGuid}
+use Rattle.store.specs.Records.{optionalAs}
 use Rattle.coherent_hold.specs.declared.gate.Flag.{Flag}
 use Rattle.coherent_hold.specs.declared.gate.Flag.the-variants as F
 use Rattle.coherent_hold.specs.declared.gate.Kind as Ks
@@ -196,6 +195,9 @@ memberAs m = record { kind = cond (m .lifecycle) isLifecycle isSample; writer = 
 unfoldable pub holdAs : CoherentHold → List Item
 holdAs h = map (λ m. memberAs m) (take (h .len) (h .held))
 
+unfoldable pub freshHold : CoherentHold
+freshHold = record { len = 0; held = replicate 64 (record { lifecycle = false; writer = replicate 16 0; set = pos 0; item = 0 }) }
+
 -- document 01's number and values of each case
 unfoldable pub answerAs : GateAnswer → Answer (ℕ × Option ℕ)
 answerAs (A.Passed n) = answered (n, none)
@@ -205,8 +207,3 @@ answerAs A.Full = refused 7
 
 unfoldable pub callAs : Gated → List ℕ → Call
 callAs r o = record { answer = answerAs (r .answer); hold = holdAs (r .hold); list = o }
-
--- a refused call leaves every place of the hold as it was
-unfoldable pub Kept : {X : Type 0} → Answer X → CoherentHold → CoherentHold → Type 0
-Kept (refused n) h k = k ≡ h
-Kept (answered x) h k = Unit {0}

@@ -1,10 +1,10 @@
 // The coherent-set gate of one reader (DDS 1.4 §2.2.3.6; DDSI-RTPS 2.5 §8.7.6): the members of a set are held back until it ends.
 use coherent_set::bits_of;
-use group_order::guid::GuidOrder;
-use group_order::guid::compare;
-use group_order::number::is_distance;
-use group_view::key::pack;
-use history::entry::Optional;
+use guids::guid::GuidOrder;
+use guids::guid::compare;
+use guids::key::pack;
+use rules::number::is_distance;
+use store::entry::Optional;
 ghost use mathlib.Core.Path.{_≡_};
 ghost use mathlib.Core.Bool.{not, cond};
 ghost use mathlib.Core.List.{[], _∷_, _++_};
@@ -13,11 +13,11 @@ ghost use Prim.Native.Nat.{_+_, _*_, _≤_, _<_};
 ghost use lib.Dec.{eqb};
 ghost use lib.ListN.{length};
 ghost use lib.Seq.{paste};
-ghost use Rattle.coherent_set.specs.Answer.{refused, answered};
-ghost use Rattle.group_order.specs.Lists.{keep, count};
-ghost use Rattle.group_order.specs.Guid.{sameGuid};
-ghost use Rattle.history.specs.Records.{optionalAs};
-ghost use Rattle.coherent_hold.specs.Gate.{ends, changes, memberMark, leaves, firstMark, countIs, setIsComplete, passed, heldBack, ended, followed, after, isFull, kindWord, markWord, markBits, wordsOf, written, leftBy, gateCall, flagAs, kindAs, itemAs, memberAs, holdAs, answerAs, callAs, Kept};
+ghost use Rattle.laws.specs.Answer.{refused, answered, Kept};
+ghost use Rattle.laws.specs.Lists.{keep, count};
+ghost use Rattle.guids.specs.Guid.{sameGuid};
+ghost use Rattle.store.specs.Records.{optionalAs};
+ghost use Rattle.coherent_hold.specs.Gate.{ends, changes, memberMark, leaves, firstMark, countIs, setIsComplete, passed, heldBack, ended, followed, after, isFull, kindWord, markWord, markBits, wordsOf, written, leftBy, gateCall, flagAs, kindAs, itemAs, memberAs, holdAs, freshHold, answerAs, callAs};
 
 // Whether the set is complete, if the RTPS reader followed it.
 pub enum Flag {
@@ -76,7 +76,7 @@ pub struct Gated {
 
 impl CoherentHold {
     pub fn new() -> CoherentHold
-        ensures { λ r. ⌜ holdAs r ≡ [] ⌝ }
+        ensures { λ r. ⌜ r ≡ freshHold ⌝ }
     {
         let blank = Member {
             lifecycle: false,

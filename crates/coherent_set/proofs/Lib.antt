@@ -1,4 +1,3 @@
-pub mod Whole
-pub mod Bytes
 pub mod Marker
 pub mod Wrap
+pub mod Scope

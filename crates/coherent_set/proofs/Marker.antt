@@ -13,8 +13,9 @@ use lib.Seq.{length-take-le}
 use mir.Syntax.{w32, w64}
 use mir.Val.{Fits, SFits, ofZ, toZ}
 use mir.ValLaws.{ofZ-fits, toZ-fits, ofZ-toZ, toZ-ofZ}
-use Rattle.coherent_set.specs.Marker.{bytesOf, numberOf, high, low, wire, unwire}
-use Rattle.coherent_set.proofs.Bytes.{Bytes, bytesOf-append, bytesOf-mod, numberOf-append, numberOf-lt, numberOf-bytesOf, bytesOf-numberOf, bytesOf-length, bytesOf-bytes, take-bytes, drop-bytes}
+use Rattle.laws.specs.Bytes.{bytesOf, numberOf}
+use Rattle.coherent_set.specs.Marker.{high, low, wire, unwire}
+use Rattle.laws.proofs.Bytes.{Bytes, bytesOf-append, bytesOf-mod, numberOf-append, numberOf-lt, numberOf-bytesOf, bytesOf-numberOf, bytesOf-length, bytesOf-bytes, take-bytes, drop-bytes}
 
 -- the halves of a number are those of its bits
 high-bits : (z : ℤ) → SFits w64 z → ofZ w32 (high z) ≡ ofZ w64 z / 2 ^ 32

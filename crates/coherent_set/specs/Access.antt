@@ -3,7 +3,7 @@ use Prim.{Unit, tt}
 use Prim.Native.Nat.{ℕ, _+_, _-_, _%_, _^_}
 use mathlib.Core.Bool.{Bool, cond}
 use lib.Dec.{eqb, ltb}
-use Rattle.coherent_set.specs.Answer.{Answer, refused, answered}
+use Rattle.laws.specs.Answer.{Answer, refused, answered}
 use Rattle.coherent_set.specs.declared.GroupAccessScope.{GroupAccessScope}
 use Rattle.coherent_set.specs.declared.AccessEnded.{AccessEnded}
 use Rattle.coherent_set.specs.declared.AccessEnded.the-variants.{Ended, PreconditionNotMet}

@@ -1,4 +1,3 @@
-pub mod Answer
 pub mod Marker
 pub mod Scope
 pub mod Access

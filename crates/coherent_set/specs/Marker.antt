@@ -1,28 +1,19 @@
 -- The wire form of a sequence number, and of a marker.
 -- DDSI-RTPS 2.5 §9.3.2 (SequenceNumber_t): a signed high half and an unsigned low half, each of 32 bits; big-endian here.
-use Prim.Native.Nat.{ℕ, zero, suc, _+_, _-_, _*_, _/_, _%_, _^_}
+use Prim.Native.Nat.{ℕ, _-_, _%_, _^_}
 use mathlib.Core.Bool.{cond}
-use mathlib.Core.List.{List, [], _∷_, _++_}
+use mathlib.Core.List.{List, _++_}
 use lib.IntN.{ℤ, pos, negsuc, _+ℤ_, _*ℤ_}
 use lib.Signed.{shrZ}
 use lib.ListN.{length, take, drop}
 use lib.Dec.{eqb}
 use mir.Syntax.{w32}
 use mir.Val.{ofZ, toZ}
-use Rattle.coherent_set.specs.Answer.{Answer, refused, answered}
+use Rattle.laws.specs.Bytes.{bytesOf, numberOf}
+use Rattle.laws.specs.Answer.{Answer, refused, answered}
 use Rattle.coherent_set.specs.declared.CoherentSetMarker.{CoherentSetMarker}
 use Rattle.coherent_set.specs.declared.Decoded.{Decoded}
 use Rattle.coherent_set.specs.declared.Decoded.the-variants.{Marker, NotEightBytes}
-
--- the k bytes of a number, the most significant first
-unfoldable pub bytesOf : ℕ → ℕ → List ℕ
-bytesOf zero n = []
-bytesOf (suc k) n = (n / 256 ^ k) % 256 ∷ bytesOf k n
-
--- the number that bytes make, the most significant first
-unfoldable pub numberOf : List ℕ → ℕ
-numberOf [] = 0
-numberOf (b ∷ bs) = b * 256 ^ length bs + numberOf bs
 
 -- the halves of x = high · 2^32 + low, with 0 ≤ low < 2^32
 unfoldable pub high : ℤ → ℤ

@@ -4,7 +4,8 @@ use Prim.{Unit, tt}
 use mathlib.Core.Bool.{Bool, true, false, cond}
 use mathlib.Core.Option.{Option, some, none}
 use lib.IntN.{ℤ, negsuc}
-use Rattle.coherent_set.specs.Answer.{Answer, refused, answered, eqZ}
+use Rattle.laws.specs.Answer.{Answer, refused, answered}
+use Rattle.laws.specs.Whole.{eqZ}
 use Rattle.coherent_set.specs.declared.CoherentSetMarker.{CoherentSetMarker}
 use Rattle.coherent_set.specs.declared.CoherentScope.{CoherentScope}
 use Rattle.coherent_set.specs.declared.CurrentMarker.{CurrentMarker}

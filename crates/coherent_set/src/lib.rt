@@ -5,7 +5,8 @@ ghost use lib.IntN.{negsuc};
 ghost use lib.ListN.{length};
 ghost use mir.Syntax.{w64};
 ghost use mir.Val.{ofZ, toZ};
-ghost use Rattle.coherent_set.specs.Marker.{bytesOf, numberOf, wire, decode, decodedAs};
+ghost use Rattle.laws.specs.Bytes.{bytesOf, numberOf};
+ghost use Rattle.coherent_set.specs.Marker.{wire, decode, decodedAs};
 ghost use Rattle.coherent_set.specs.Scope.{freshScope, activeScope, markerOf, markerAs, beginCoherent, begunAs, endCoherent, endedAs};
 ghost use Rattle.coherent_set.specs.Access.{freshAccess, openAccess, beginAccess, endAccess, accessEndedAs};
 

@@ -1,4 +1,2 @@
-pub mod Arrays
-pub mod Packing
 pub mod TbfLaws
 pub mod TbfOrder

@@ -13,9 +13,9 @@ use lib.ListN.{length, take, drop, set, getD, length-append, length-take}
 use lib.Seq.{take-suc, take-set-lt, drop-cons, set-at, getD-take, length-take-le}
 use mir.Syntax.{w32}
 use mir.Val.{SFits}
-use Rattle.group_order.specs.Lists.{keep, any}
-use Rattle.group_order.proofs.Lists.{keep-fewer, keep-none, length-split, not-both}
-use Rattle.history.proofs.Places.{Shifted, shifted-more, shifted-put}
+use Rattle.laws.specs.Lists.{keep, any}
+use Rattle.laws.proofs.Lists.{keep-fewer, keep-none, length-split, not-both}
+use Rattle.laws.proofs.Places.{Shifted, shifted-more, shifted-put}
 use Rattle.filter_hold.specs.declared.tbf.Held.{Held}
 use Rattle.filter_hold.specs.declared.tbf.TbfHold.{TbfHold}
 use Rattle.filter_hold.specs.Tbf.{fromZero, timeOf, words, written, isOf, supersede, holdAs}

@@ -8,13 +8,22 @@ use native.Mathlib.Omega.{arith}
 use borrow.Author.Tests.{ltb-true, ltb-false, lt-ltb, eqb-false}
 use lib.Dec.{ltb, leb}
 use lib.ListN.{length, take, drop}
-use Rattle.coherent_set.specs.Answer.{Answer}
-use Rattle.group_order.specs.Lists.{keep, all, any, indexOf}
-use Rattle.group_order.proofs.Lists.{and-true, and-left, and-right, all-imp, all-keep, or-left, or-right}
+use Rattle.laws.specs.Answer.{Answer}
+use Rattle.laws.specs.Lists.{keep, all, any, indexOf}
+use Rattle.laws.proofs.Lists.{and-true, and-left, and-right, all-imp, all-keep, or-left, or-right}
 use Rattle.filter_hold.specs.declared.tbf.Time.{Time}
 use Rattle.filter_hold.specs.declared.tbf.Separation.{Separation}
 use Rattle.filter_hold.specs.declared.tbf.Held.{Held}
-use Rattle.filter_hold.specs.Tbf.{rising, follows, isOf, insert, supersede, hold, dueAt, notDueAt, notAfter, takeDue, timeAfter, nothing}
+use Rattle.filter_hold.specs.declared.tbf.TbfHold.{TbfHold}
+use Rattle.filter_hold.specs.Tbf.{holdAs, freshHold, cleared, rising, follows, isOf, insert, supersede, hold, dueAt, notDueAt, notAfter, takeDue, timeAfter, nothing}
+
+pub fresh-nothing : holdAs freshHold ≡ nothing
+unfolding freshHold holdAs
+fresh-nothing = refl
+
+pub cleared-nothing : (h : TbfHold) → holdAs (cleared h) ≡ nothing
+unfolding cleared holdAs
+cleared-nothing h = refl
 
 pub rising-nothing : rising nothing ≡ true
 unfolding rising

@@ -7,9 +7,10 @@ use mathlib.Core.List.{List, [], _∷_, _++_}
 use lib.IntN.{ℤ, pos, negsuc}
 use lib.Signed.{ltZ}
 use lib.Dec.{ltb, leb, eqb}
-use lib.ListN.{length, take, drop}
-use Rattle.coherent_set.specs.Answer.{Answer, refused, answered, eqZ}
-use Rattle.group_order.specs.Lists.{keep, all, any, indexOf}
+use lib.ListN.{length, take, drop, replicate}
+use Rattle.laws.specs.Answer.{Answer, refused, answered}
+use Rattle.laws.specs.Whole.{eqZ}
+use Rattle.laws.specs.Lists.{keep, all, any, indexOf}
 use Rattle.filter_hold.specs.declared.tbf.Time.{Time}
 use Rattle.filter_hold.specs.declared.tbf.Separation.{Separation}
 use Rattle.filter_hold.specs.declared.tbf.Held.{Held}
@@ -98,8 +99,16 @@ takeDue t l out =
 
 -- ---- what the code's records stand for, with document 01's number and values of each case
 
+-- the first len of the 32 places; what stands in those behind is free, but where a call below says it
 unfoldable pub holdAs : TbfHold → List Held
 holdAs h = take (h .len) (h .held)
+
+unfoldable pub freshHold : TbfHold
+freshHold = record { len = 0; held = replicate 32 (record { instance = 0; item = 0; due = record { sec = pos 0; nanosec = 0 } }) }
+
+-- no place is held, and all keep what stands in them
+unfoldable pub cleared : TbfHold → TbfHold
+cleared h = record { len = 0; held = h .held }
 
 unfoldable pub holdAnswerAs : HoldAnswer → Answer (Unit {0})
 holdAnswerAs A.Held = answered tt
@@ -123,7 +132,7 @@ askedFor (Q.Due t) x = notAfter (x .due) t
 askedFor (Q.NotDue t) x = not (notAfter (x .due) t)
 
 -- n are held
-pub record Counted (h : TbfHold) (n : ℕ) : Type 0 where
+pub record HeldCount (h : TbfHold) (n : ℕ) : Type 0 where
   pub held : holdAs h ≡ take n (h .held)
   pub number : length (holdAs h) ≡ n
   pub few : n ≤ 32

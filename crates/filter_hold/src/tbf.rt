@@ -4,8 +4,9 @@ ghost use Prim.Native.Nat.{_*_, _≤_, _<_, min};
 ghost use lib.IntN.{pos};
 ghost use lib.Dec.{eqb};
 ghost use lib.ListN.{length};
-ghost use Rattle.group_order.specs.Lists.{keep, indexOf};
-ghost use Rattle.filter_hold.specs.Tbf.{fromZero, timeAfter, notAfter, holdAs, follows, insert, supersede, nothing, holdingAs, hold, written, takingAs, takeDue, askedFor, Counted};
+ghost use Rattle.laws.specs.Answer.{Kept};
+ghost use Rattle.laws.specs.Lists.{keep, indexOf};
+ghost use Rattle.filter_hold.specs.Tbf.{fromZero, timeAfter, notAfter, holdAs, follows, insert, supersede, freshHold, cleared, holdAnswerAs, holdingAs, hold, written, dueAnswerAs, takingAs, takeDue, askedFor, HeldCount};
 
 // Signed seconds and nanoseconds.
 pub struct Time {
@@ -122,7 +123,7 @@ fn asked_for(which: Asked, x: Held) -> bool
 
 impl TbfHold {
     pub fn new() -> TbfHold
-        ensures { λ r. ⌜ holdAs r ≡ nothing ⌝ }
+        ensures { λ r. ⌜ r ≡ freshHold ⌝ }
     {
         let due = Time { sec: 0, nanosec: 0 };
         let free = Held {
@@ -139,7 +140,8 @@ impl TbfHold {
 
     // Holds an instance's sample that was filtered at its arrival until arrival + separation.
     pub fn hold(self, instance: u64, item: u32, arrival: Time, separation: Separation) -> Holding
-        ensures { λ r. ⌜ holdingAs r ≡ hold instance item arrival separation (holdAs self) ⌝ }
+        ensures is { λ r. ⌜ holdingAs r ≡ hold instance item arrival separation (holdAs self) ⌝ }
+        ensures kept { λ r. ⌜ Kept (holdAnswerAs (r .answer)) self (r .hold) ⌝ }
     {
         if 1000000000 <= separation.nanosec {
             return Holding {
@@ -177,7 +179,8 @@ impl TbfHold {
 
     // Takes out the samples due at or before the time: instance and item of each, written from the list's start.
     pub fn take_due(self, time: Time, out: &mut [u64]) -> Taking
-        ensures { λ r. ⌜ takingAs r (now (out .exit)) ≡ takeDue time (holdAs self) (now (out .entry)) ⌝ }
+        ensures is { λ r. ⌜ takingAs r (now (out .exit)) ≡ takeDue time (holdAs self) (now (out .entry)) ⌝ }
+        ensures kept { λ r. ⌜ Kept (dueAnswerAs (r .answer)) self (r .hold) ⌝ }
     {
         let due = self.only(Asked::Due(time));
         let n = due.count();
@@ -204,7 +207,7 @@ impl TbfHold {
 
     // Forgets everything held: the filter is off.
     pub fn clear(self) -> TbfHold
-        ensures { λ r. ⌜ holdAs r ≡ nothing ⌝ }
+        ensures { λ r. ⌜ r ≡ cleared self ⌝ }
     {
         let held = self.held;
         TbfHold { len: 0, held }
@@ -212,7 +215,7 @@ impl TbfHold {
 
     // How many are held.
     fn count(self) -> usize
-        ensures { λ r. ⌜ Counted self r ⌝ }
+        ensures { λ r. ⌜ HeldCount self r ⌝ }
     {
         let n = self.len;
         if n < 32 {
@@ -242,7 +245,7 @@ impl TbfHold {
 
     // The first of the n held whose instance is larger; n if none is.
     fn place(self, n: usize, instance: u64) -> usize
-        requires { ⌜ Counted self n ⌝ }
+        requires { ⌜ HeldCount self n ⌝ }
         ensures { λ r. ⌜ r ≡ indexOf (λ x. follows instance x) (holdAs self) ⌝ }
     {
         let held = self.held;
@@ -259,7 +262,7 @@ impl TbfHold {
 
     // Puts a sample before the first whose instance is larger.
     fn insert(self, n: usize, sample: Held) -> TbfHold
-        requires { ⌜ Counted self n × (n < 32) ⌝ }
+        requires { ⌜ HeldCount self n × (n < 32) ⌝ }
         ensures { λ r. ⌜ holdAs r ≡ insert sample (holdAs self) ⌝ }
     {
         let p = self.place(n, sample.instance);
@@ -276,7 +279,7 @@ impl TbfHold {
 
     // Writes instance and item of each of the n held.
     fn write(self, n: usize, out: &mut [u64])
-        requires { ⌜ Counted self n × (n * 2 ≤ length (now out)) ⌝ }
+        requires { ⌜ HeldCount self n × (n * 2 ≤ length (now out)) ⌝ }
         ensures { λ _. ⌜ now (out .exit) ≡ written (holdAs self) (now (out .entry)) ⌝ }
     {
         let held = self.held;

@@ -25,10 +25,10 @@ use fields::field_count;
 use fields::long_at;
 use fields::only_byte;
 use fields::word_at;
-use history::entry::Optional;
 use libc::STDOUT_FILENO;
 use line_input::begin;
 use line_input::next_line;
+use store::entry::Optional;
 ghost use Prim.Native.Nat.{_≤_};
 
 // Room for every answer: 65 items of 38 bytes.

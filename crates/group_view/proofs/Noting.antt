@@ -8,8 +8,8 @@ use lib.Dec.{ltb}
 use lib.ListN.{length, take, length-append, length-map}
 use lib.Seq.{take-all, take-append-le, length-take-le}
 use borrow.Author.Tests.{ltb-true, ltb-false, lt-ltb, le-ltb}
-use Rattle.group_order.specs.Release.{malformed}
-use Rattle.group_order.proofs.Lists.{or-left, or-right, or-true-left, or-true-right}
+use Rattle.rules.specs.Release.{malformed}
+use Rattle.laws.proofs.Lists.{or-left, or-right, or-true-left, or-true-right}
 use Rattle.group_view.specs.View.{pairAs, digestRowAs, pairsOf, digestsOf, more, viewOf, Cleared, Noted, NotedDigest, Steps, rowsAs, NotedRows}
 use Rattle.group_view.specs.declared.view.Pair as P
 use Rattle.group_view.specs.declared.view.DigestRow as D

@@ -11,21 +11,21 @@ use lib.Dec.{eqb, ltb}
 use lib.ListN.{length, getD, set, take, drop, length-set, length-append}
 use lib.Seq.{paste, length-paste, sets-eq, drop-at, drop-cons, getD-set-same, getD-set-other}
 use borrow.Author.Tests.{ne-eqb, lt-ltb, le-ltb}
-use Rattle.coherent_set.specs.Marker.{bytesOf, numberOf}
-use Rattle.coherent_set.proofs.Bytes.{pow-pos, bytesOf-length, bytesOf-append, numberOf-bytesOf}
-use Rattle.group_order.specs.Lists.{all, any}
-use Rattle.group_view.specs.Table.{table}
-use Rattle.group_order.specs.Sets.{Pair}
-use Rattle.group_order.specs.Commit.{DigestRow, accepted}
-use Rattle.group_order.specs.Release.{malformed}
-use Rattle.group_order.specs.Guid.{Guid, sameGuid}
-use Rattle.group_view.specs.Keys.{guidOf, keyAs}
+use Rattle.laws.specs.Bytes.{bytesOf, numberOf}
+use Rattle.laws.proofs.Bytes.{pow-pos, bytesOf-length, bytesOf-append, numberOf-bytesOf}
+use Rattle.laws.specs.Lists.{all, any}
+use Rattle.laws.specs.Table.{table}
+use Rattle.rules.specs.Sets.{Pair}
+use Rattle.rules.specs.Commit.{DigestRow, accepted}
+use Rattle.rules.specs.Release.{malformed}
+use Rattle.guids.specs.Guid.{Guid, sameGuid}
+use Rattle.guids.specs.Keys.{guidOf, keyAs}
 use Rattle.group_view.specs.View.{digestOf, pairOf, digestRowOf, pairsOf, digestsOf, digestRowAt, more, viewOf, pairFor, pairAs, digestRowAs, PairAt, Cleared, Noted, NotedDigest, Spoiled}
-use Rattle.group_view.specs.declared.key.Key.{Key}
+use Rattle.guids.specs.declared.key.Key.{Key}
 use Rattle.group_view.specs.declared.view.Counted.{Counted}
 use Rattle.group_view.specs.declared.view.Pair as P
 use Rattle.group_view.specs.declared.view.DigestRow as D
-use Rattle.group_view.proofs.Table.{row-fits, word-at, word-put-after, table-set-before, table-put-before, table-put-after, length-stored, stored-get, stored-push}
+use Rattle.laws.proofs.Table.{row-fits, word-at, word-put-after, table-set-before, table-put-before, table-put-after, length-stored, stored-get, stored-push}
 
 -- ---- a table of at most n rows, of which word w counts those in use
 

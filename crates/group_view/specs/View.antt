@@ -6,13 +6,13 @@ use mathlib.Core.Option.{Option, some, none}
 use mathlib.Core.Path.{_≡_}
 use lib.Dec.{eqb, ltb}
 use lib.ListN.{take, drop, getD, length}
-use Rattle.group_order.specs.Sets.{Pair}
-use Rattle.group_order.specs.Commit.{DigestRow}
-use Rattle.group_order.specs.Release.{View}
-use Rattle.group_view.specs.Table.{table}
-use Rattle.group_order.specs.Guid.{Guid, sameGuid}
-use Rattle.group_order.specs.Lists.{keep}
-use Rattle.group_view.specs.Keys.{guidOf, keyAs}
+use Rattle.rules.specs.Sets.{Pair}
+use Rattle.rules.specs.Commit.{DigestRow}
+use Rattle.rules.specs.Release.{View}
+use Rattle.laws.specs.Table.{table}
+use Rattle.guids.specs.Guid.{Guid, sameGuid}
+use Rattle.laws.specs.Lists.{keep}
+use Rattle.guids.specs.Keys.{guidOf, keyAs}
 use Rattle.group_view.specs.declared.view.Counted.{Counted}
 use Rattle.group_view.specs.declared.view.Pair as P
 use Rattle.group_view.specs.declared.view.DigestRow as D

@@ -1,3 +1,2 @@
-// The rows of a release: keys as the store has them, and the view that notes counted rows and digest rows.
-pub mod key;
+// The view of a release: GroupView of the source, as rows noted in lent words.
 pub mod view;

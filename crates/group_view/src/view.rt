@@ -1,18 +1,18 @@
 // The view of a release as lent words: the counted rows and the digest rows that were noted (specs/View.antt).
-use crate::key::Key;
-use crate::key::pack;
-use crate::key::same;
+use guids::key::Key;
+use guids::key::pack;
+use guids::key::same;
 ghost use mathlib.Core.Path.{_≡_};
 ghost use mathlib.Core.Bool.{_||_, _&&_, not};
 ghost use Prim.Native.Nat.{_<_, min};
 ghost use lib.Dec.{eqb, ltb};
 ghost use lib.ListN.{length};
-ghost use Rattle.group_order.specs.Commit.{accepted};
-ghost use Rattle.group_order.specs.Release.{malformed};
+ghost use Rattle.rules.specs.Commit.{accepted};
+ghost use Rattle.rules.specs.Release.{malformed};
 ghost use Rattle.group_view.specs.View.{digestOf, pairsOf, digestsOf, digestRowAt, viewOf, more, PairAt, Cleared, Noted, NotedDigest, Spoiled, Steps};
-ghost use Rattle.group_order.specs.Guid.{sameGuid};
-ghost use Rattle.group_order.specs.Lists.{any};
-ghost use Rattle.group_view.specs.Keys.{keyAs};
+ghost use Rattle.guids.specs.Guid.{sameGuid};
+ghost use Rattle.laws.specs.Lists.{any};
+ghost use Rattle.guids.specs.Keys.{keyAs};
 
 // A counted row: a writer of a group and a reader that it is matched with.
 pub struct Pair {

@@ -14,23 +14,24 @@ use mir.Syntax.{w64}
 use mir.Val.{toZ, ofZ}
 use mir.ValLaws.{toZ-ofZ}
 use borrow.Author.Tests.{leb-false, lt-ltb, ne-eqb}
-use Rattle.coherent_set.specs.Answer.{Answer, refused, answered}
-use Rattle.group_order.specs.Lists.{any, change, indexOf, isSome}
-use Rattle.group_order.specs.Guid.{Guid}
-use Rattle.group_order.specs.Entry.{Entry, isSampleW, ofGroup}
-use Rattle.group_order.specs.State.{State, Group, Writer, isGroup, isWriter, newWriter, committedOf, stored}
-use Rattle.group_order.specs.Marks.{number, hearWriter, announcedTo, tell}
-use Rattle.group_order.specs.Offer.{Offer, Fate, isStored, isJoined, isLate, refusal, ninth, pair33, withMarks, entryOf, shares, replaced, fateOf, adds, offerRefusal, place, heardOffer, offered, offer}
-use Rattle.history.specs.Store.{groupsOf, writersOf, stateOf}
+use Rattle.laws.specs.Answer.{Answer, refused, answered}
+use Rattle.laws.specs.Lists.{any, change, indexOf, isSome}
+use Rattle.guids.specs.Guid.{Guid}
+use Rattle.rules.specs.Entry.{Entry, isSampleW, ofGroup}
+use Rattle.rules.specs.State.{State, Group, Writer, isGroup, isWriter, newWriter, committedOf, stored}
+use Rattle.rules.specs.Marks.{number, hearWriter, announcedTo, tell}
+use Rattle.rules.specs.Offer.{Offer, Fate, isStored, isJoined, isLate, refusal, ninth, pair33, withMarks, entryOf, shares, replaced, fateOf, adds, offerRefusal, place, heardOffer, offered, offer}
+use Rattle.store.specs.Store.{groupsOf, writersOf, stateOf}
 use Rattle.group_view.specs.View.{digestOf}
 use Rattle.history.specs.Calls.{digestAs, digestWord}
 use Rattle.history.specs.declared.order.Digest.{Digest}
 use Rattle.history.specs.declared.order.Digest.the-variants as D
-use Rattle.history.specs.Records.{Told}
-use Rattle.group_order.proofs.Lists.{not-both, and-right, and-never, any-empty}
-use Rattle.group_order.proofs.Fates.{fate-joined}
-use Rattle.group_order.proofs.Reached.{refusal-first, refusal-rest}
-use Rattle.history.proofs.Places.{change-at}
+use Rattle.store.specs.Records.{Told}
+use Rattle.store.proofs.Past.{below, set-past}
+use Rattle.laws.proofs.Lists.{not-both, and-right, and-never, any-empty}
+use Rattle.rules.proofs.Fates.{fate-joined}
+use Rattle.rules.proofs.Reached.{refusal-first, refusal-rest}
+use Rattle.laws.proofs.Places.{change-at, change-none}
 
 -- without a set none is shared
 pub none-shares : {X : Type 0} (e : Entry X) → e .set ≡ none → (l : List (Entry X)) → any (λ h. shares e h) l ≡ false
@@ -159,14 +160,15 @@ then-heard g w gs ws s l m e h = h ∙ ap {B = State ℕ} (λ (t : State ℕ). w
 
 -- and then told
 pub then-told : (g w : Guid) (f : Writer → Writer) (gs : List Group) (ws : List Writer) (s : State ℕ) (l m : List ℕ) (i : ℕ)
-    → stateOf l ≡ withMarks gs (hearWriter g w ws) s → i ≡ indexOf (λ x. isWriter g w x) (writersOf l) → i < length (writersOf l) → Told i f l m
+    → stateOf l ≡ withMarks gs (hearWriter g w ws) s → i ≡ indexOf (λ x. isWriter g w x) (writersOf l) → Told i f l m
     → stateOf m ≡ withMarks gs (tell g w f ws) s
 unfolding stateOf withMarks tell
-then-told g w f gs ws s l m i e d b t =
+then-told g w f gs ws s l m i e d t =
     let z : Writer = newWriter [] [] in
-    let h : indexOf (λ x. isWriter g w x) (writersOf l) < length (writersOf l) = omega arith in
     let c : set (writersOf l) i (f (getD (writersOf l) i z)) ≡ change (λ x. isWriter g w x) f (writersOf l)
-    = ap (λ j. set (writersOf l) j (f (getD (writersOf l) j z))) d ∙ sym (change-at (λ x. isWriter g w x) f (writersOf l) z h) in
+    = below i (length (writersOf l))
+    (λ h. ap (λ j. set (writersOf l) j (f (getD (writersOf l) j z))) d ∙ sym (change-at (λ x. isWriter g w x) f (writersOf l) z (omega (arith, d))))
+    (λ h. set-past (writersOf l) i (f (getD (writersOf l) i z)) h ∙ sym (change-none (λ x. isWriter g w x) f (writersOf l) (omega (arith, d)))) in
     t .state ∙ ap (λ x. withMarks (stateOf l .groups) x (stateOf l)) c
     ∙ ap {B = State ℕ} (λ (t : State ℕ). withMarks (t .groups) (change (λ x. isWriter g w x) f (t .writers)) t) e
 

@@ -1,17 +1,17 @@
 -- Every chain of calls from a new history has all of the third demand: each contract is a step of the definitions.
 use Prim.Native.Nat.{ℕ}
-use mathlib.Core.Path.{_≡_, refl, sym, ap, subst, _∙_}
+use mathlib.Core.Path.{_≡_, refl, ap, subst, _∙_}
 use mathlib.Core.List.{List, [], _∷_, map}
 use lib.ListN.{length}
-use Rattle.coherent_set.specs.Answer.{Answer, refused, answered}
-use Rattle.group_order.specs.State.{State, fresh}
-use Rattle.group_order.specs.Release.{Outcome, release}
-use Rattle.group_order.specs.Run.{Call, Said, saidOffer, saidDone, saidRelease, step, run, answers, written, waiting}
-use Rattle.group_order.proofs.Demand3.{demand3}
-use Rattle.history.specs.Store.{stateOf}
+use Rattle.laws.specs.Answer.{Answer, refused, answered}
+use Rattle.rules.specs.State.{State, fresh}
+use Rattle.rules.specs.Release.{Outcome, release}
+use Rattle.rules.specs.Run.{saidOffer, saidDone, saidRelease, step, run, answers, statesAfter, waiting}
+use Rattle.rules.proofs.Demand3.{demand3}
+use Rattle.store.specs.Store.{stateOf}
 use Rattle.group_view.specs.View.{rowsAs}
-use Rattle.history.specs.Calls.{countOut, releaseTo}
-use Rattle.history.specs.Chain.{Done, didOffer, didHeartbeat, didGap, didRelease, Meets, Chain, ends, goes, callOf, counted, Agrees, AllAgree, none, more, CodeDemand3}
+use Rattle.release.specs.Released.{countOut, releaseTo}
+use Rattle.history.specs.Chain.{Done, didOffer, didHeartbeat, didGap, didRelease, Meets, Chain, ends, goes, wordsAfter, callOf, counted, Agrees, AllAgree, none, more, CodeDemand3}
 
 -- a release's count is that of what it handed out
 count-said : (a : Answer (Outcome ℕ)) → countOut a ≡ counted (saidRelease a)
@@ -46,13 +46,27 @@ unfolding run
 chain-state s e ends = e
 chain-state {l = l} s e (goes {k = k} {d = d} x c) = chain-state (step s (callOf d) .1) (steps l d k x ∙ ap (λ a. step a (callOf d) .1) e) c
 
-pub code-demand3 : (t : ℕ) (l m : List ℕ) (ds : List Done) → stateOf l ≡ fresh t → Chain l ds m → CodeDemand3 t ds m
+chain-states : {l m : List ℕ} {ds : List Done} (s : State ℕ) → stateOf l ≡ s → (c : Chain l ds m) → map (λ k. stateOf k) (wordsAfter c) ≡ statesAfter s (map (λ d. callOf d) ds)
+unfolding wordsAfter statesAfter
+chain-states s e ends = refl
+chain-states {l = l} s e (goes {k = k} {d = d} {ds = ds} x c) =
+    let h : stateOf k ≡ step s (callOf d) .1 = steps l d k x ∙ ap (λ a. step a (callOf d) .1) e in
+    ap (λ a. a ∷ map (λ k. stateOf k) (wordsAfter c)) h ∙ ap (λ t. step s (callOf d) .1 ∷ t) (chain-states (step s (callOf d) .1) h c)
+
+-- the figures of states are those of their words
+figures-of : (r : ℕ) (ws : List (List ℕ)) → map (λ k. waiting (stateOf k) r) ws ≡ map (λ s. waiting s r) (map (λ k. stateOf k) ws)
+figures-of r [] = refl
+figures-of r (k ∷ ws) = ap (λ l. waiting (stateOf k) r ∷ l) (figures-of r ws)
+
+pub code-demand3 : (t : ℕ) (l m : List ℕ) (ds : List Done) → stateOf l ≡ fresh t → (c : Chain l ds m) → CodeDemand3 t l ds m c
 code-demand3 t l m ds e c =
     let s = chain-state (fresh t) e c in
-    let d = demand3 t (map (λ x. callOf x) ds) in
+    let a = chain-states (fresh t) e c in
     record {
       answers-are = chain-answers (fresh t) e c;
+      states-are = a;
+      waiting-are = λ r. figures-of r (wordsAfter c) ∙ ap (λ l. map (λ s. waiting s r) l) a;
       state-is = s;
-      waiting-is = λ r. ap (λ a. waiting a r) s ∙ sym (d .waiting-same r);
-      demand = d;
+      waiting-is = λ r. ap (λ a. waiting a r) s;
+      demand = demand3 t (map (λ x. callOf x) ds);
     }

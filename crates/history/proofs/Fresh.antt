@@ -3,9 +3,9 @@ use Prim.Native.Nat.{ℕ}
 use mathlib.Core.Path.{_≡_}
 use mathlib.Core.List.{List}
 use lib.ListN.{getD}
-use Rattle.group_order.specs.Lists.{keep}
-use Rattle.group_order.specs.State.{fresh, noCounts}
-use Rattle.history.specs.Store.{stateOf, groupsOf, writersOf, rowsOf, rowsIn, countsOf, staged}
+use Rattle.laws.specs.Lists.{keep}
+use Rattle.rules.specs.State.{fresh, noCounts}
+use Rattle.store.specs.Store.{stateOf, groupsOf, writersOf, rowsOf, rowsIn, countsOf, staged}
 
 pub fresh-state : (l : List ℕ) (t : ℕ) → getD l 0 0 ≡ 0 → getD l 1 0 ≡ 0 → getD l 2 0 ≡ 0 → getD l 3 0 ≡ t
     → getD l 4 0 ≡ 0 → getD l 5 0 ≡ 0 → getD l 6 0 ≡ 0 → getD l 7 0 ≡ 0 → stateOf l ≡ fresh t

@@ -8,20 +8,15 @@ use mathlib.Core.Option.{Option, some, none}
 use lib.IntN.{ℤ}
 use lib.Dec.{eqb}
 use lib.ListN.{length, take, getD}
-use Rattle.coherent_set.specs.Answer.{Answer, refused, answered}
-use Rattle.group_order.specs.Lists.{any, count}
-use Rattle.group_order.specs.Guid.{Guid}
-use Rattle.group_order.specs.Entry as E
-use Rattle.group_order.specs.State.{State, Writer, Counts}
-use Rattle.group_order.specs.Marks.{hearGroup, tell}
-use Rattle.group_order.specs.Offer as O
-use Rattle.group_order.specs.Release.{View, Outcome, release}
-use Rattle.group_order.specs.Run.{saidRelease, written}
-use Rattle.history.specs.Store.{Row, rowsIn, staged, stateOf}
-use Rattle.history.specs.Records.{optionalAs, whatAs}
-use Rattle.group_view.specs.View.{more, viewOf}
-use Rattle.history.specs.declared.release.Released.{Released}
-use Rattle.history.specs.declared.release.Released.the-variants as R
+use Rattle.laws.specs.Answer.{Answer, refused, answered}
+use Rattle.laws.specs.Lists.{any, count}
+use Rattle.guids.specs.Guid.{Guid}
+use Rattle.rules.specs.Entry as E
+use Rattle.rules.specs.State.{State, Writer, Counts}
+use Rattle.rules.specs.Marks.{hearGroup, tell}
+use Rattle.rules.specs.Offer as O
+use Rattle.store.specs.Store.{Row, rowsIn, staged, stateOf}
+use Rattle.store.specs.Records.{optionalAs, whatAs}
 use Rattle.history.specs.declared.order.Offer.{Offer}
 use Rattle.history.specs.declared.order.Offered.{Offered}
 use Rattle.history.specs.declared.order.Offered.the-variants.{Stored, Joined, Late, ReaderAboveSeven, NinthGroup, PairOver32, Full}
@@ -31,7 +26,6 @@ use Rattle.history.specs.declared.order.Heartbeat.{Heartbeat}
 use Rattle.history.specs.declared.order.Gap.{Gap}
 use Rattle.history.specs.declared.order.Accepted.{Accepted}
 use Rattle.history.specs.declared.order.Accepted.the-variants as A
-use Rattle.history.specs.declared.order.ReleaseCounts.{ReleaseCounts}
 use Rattle.history.specs.declared.order.Joining.{Joining}
 use Rattle.history.specs.declared.order.Joining.the-variants as J
 
@@ -87,38 +81,6 @@ toldAs A.ReaderAboveSeven = refused 1
 toldAs A.NinthGroup = refused 2
 toldAs A.PairOver32 = refused 3
 
-unfoldable pub countsAs : ReleaseCounts → Counts
-countsAs c = record {
-  skipped = c .«skipped_after_timeout»;
-  incomplete = c .«incomplete_sets»;
-  discarded = c .«discarded_samples»;
-  late = c .«late_samples»;
-}
-
-unfoldable pub releasedAs : Released → Answer ℕ
-releasedAs (R.Out n) = answered n
-releasedAs R.MalformedView = refused 9
-releasedAs R.ListTooShort = refused 5
-
--- a release: the number of places written, the state, the lent list
-abbrev pub countOut : Answer (Outcome ℕ) → Answer ℕ
-countOut (refused n) = refused n
-countOut (answered r) = answered (length (r .out))
-
-unfoldable pub releaseTo : State ℕ → View → ℕ → List ℕ → Answer ℕ × State ℕ × List ℕ
-releaseTo s v now l =
-    let r : Answer (Outcome ℕ) × State ℕ = release s v now (length l) in
-    (countOut (r .0), r .1, written (saidRelease (r .0)) l)
-
--- the same on the rows that a view has noted; with more than it holds: 9
-unfoldable pub releaseNoted : List ℕ → State ℕ → ℕ → List ℕ → Answer ℕ × State ℕ × List ℕ
-releaseNoted v s now l = cond (more v) (refused 9, s, l) (releaseTo s (viewOf v) now l)
-
--- a refused call leaves every word as it was
-unfoldable pub Kept : {X : Type 0} → Answer X → List ℕ → List ℕ → Type 0
-Kept (refused n) l m = m ≡ l
-Kept (answered x) l m = Unit {0}
-
 -- ---- steps of the calls
 
 -- whether an offer at or below committed joins, and whether it replaces an end
@@ -137,10 +99,6 @@ JoinsSet J.Adds g z w r l = (any (λ h. E.inSet g z h) l ≡ true) × (any (λ h
 pub record Heard (g w : Guid) (f : Writer → Writer) (l m : List ℕ) : Type 0 where
   pub state : stateOf m ≡ O.withMarks (hearGroup g (stateOf l .groups)) (tell g w f (stateOf l .writers)) (stateOf l)
   pub long : length m ≡ 6984
-
--- the rows that are pending or held
-unfoldable pub live : List Row → ℕ
-live rs = length (staged 0 rs) + length (staged 1 rs)
 
 -- rows in use below 256, with the same entries
 pub record Roomy (n r : ℕ) (l m : List ℕ) : Type 0 where
@@ -161,8 +119,3 @@ pub record Appended (n : ℕ) (x : Row) (l m : List ℕ) : Type 0 where
 
 unfoldable pub withLate : State ℕ → State ℕ
 withLate s = record { groups = s .groups; writers = s .writers; pending = s .pending; held = s .held; counts = O.oneLate (s .counts); timeout = s .timeout }
-
--- the mark of the first row found, if any
-abbrev pub rowMark : Option Row → Option ℕ
-rowMark none = none
-rowMark (some x) = x .entry .ended

@@ -3,20 +3,21 @@ use Prim.Native.Nat.{ℕ}
 use mathlib.Core.Path.{_≡_}
 use mathlib.Core.List.{List, [], _∷_, map}
 use lib.ListN.{length}
-use Rattle.coherent_set.specs.Answer.{Answer, refused, answered}
-use Rattle.group_order.specs.State.{State, fresh}
-use Rattle.group_order.specs.Offer as O
-use Rattle.group_order.specs.Run.{Call, offers, heartbeats, gaps, releases, Said, isRefused, isOffered, isDone, isReleased, saidOffer, saidDone, run, answers, written, waiting}
-use Rattle.group_order.specs.Claim.{Demand3, final}
-use Rattle.history.specs.Store.{stateOf}
+use Rattle.laws.specs.Answer.{Answer, refused, answered}
+use Rattle.rules.specs.State.{fresh}
+use Rattle.rules.specs.Offer as O
+use Rattle.rules.specs.Run.{Call, offers, heartbeats, gaps, releases, Said, isRefused, isOffered, isDone, isReleased, saidOffer, saidDone, run, answers, statesAfter, written, waiting}
+use Rattle.rules.specs.Claim.{Demand3}
+use Rattle.store.specs.Store.{stateOf}
 use Rattle.group_view.specs.View.{rowsAs}
-use Rattle.history.specs.Calls.{offerAs, heartbeatAs, gapAs, offeredAs, toldAs, releasedAs, releaseTo, Kept}
+use Rattle.history.specs.Calls.{offerAs, heartbeatAs, gapAs, offeredAs, toldAs}
+use Rattle.release.specs.Released.{releasedAs, releaseTo, Kept}
 use Rattle.history.specs.declared.order.Offer.{Offer}
 use Rattle.history.specs.declared.order.Offered.{Offered}
 use Rattle.history.specs.declared.order.Heartbeat.{Heartbeat}
 use Rattle.history.specs.declared.order.Gap.{Gap}
 use Rattle.history.specs.declared.order.Accepted.{Accepted}
-use Rattle.history.specs.declared.release.Released.{Released}
+use Rattle.release.specs.declared.release.Released.{Released}
 use Rattle.group_view.specs.declared.view.Pair.{Pair}
 use Rattle.group_view.specs.declared.view.DigestRow.{DigestRow}
 
@@ -38,6 +39,11 @@ Meets l (didRelease ps ds now o r p) m = ((releasedAs r, stateOf m, p) ≡ relea
 pub data Chain : List ℕ → List Done → List ℕ → Type 0 where
   ends : {l : List ℕ} → Chain l [] l
   goes : {l k m : List ℕ} {d : Done} {ds : List Done} → Meets l d k → Chain k ds m → Chain l (d ∷ ds) m
+
+-- the words after each call
+unfoldable pub wordsAfter : {l m : List ℕ} {ds : List Done} → Chain l ds m → List (List ℕ)
+wordsAfter ends = []
+wordsAfter (goes {k = k} x c) = k ∷ wordsAfter c
 
 -- the call that was made
 unfoldable pub callOf : Done → Call ℕ
@@ -64,11 +70,15 @@ pub data AllAgree : List (Said ℕ) → List Done → Type 0 where
   none : AllAgree [] []
   more : {a : Said ℕ} {rest : List (Said ℕ)} {d : Done} {ds : List Done} → Agrees a d → AllAgree rest ds → AllAgree (a ∷ rest) (d ∷ ds)
 
--- all of the third demand, of a chain from timeout t that left the words m
-pub record CodeDemand3 (t : ℕ) (ds : List Done) (m : List ℕ) : Type 0 where
-  -- the answers, lent lists, state and waiting figures are those that the definitions give from the calls' arguments alone
+-- all of the third demand, of a chain from the words l of a new history with timeout t to the words m
+pub record CodeDemand3 (t : ℕ) (l : List ℕ) (ds : List Done) (m : List ℕ) (c : Chain l ds m) : Type 0 where
+  -- the answers and lent lists are those that the definitions give from the calls' arguments alone
   pub answers-are : AllAgree (answers (fresh t) (map (λ d. callOf d) ds)) ds
+  -- so are the state and each reader's waiting figure after every call
+  pub states-are : map (λ k. stateOf k) (wordsAfter c) ≡ statesAfter (fresh t) (map (λ d. callOf d) ds)
+  pub waiting-are : (r : ℕ) → map (λ k. waiting (stateOf k) r) (wordsAfter c) ≡ map (λ s. waiting s r) (statesAfter (fresh t) (map (λ d. callOf d) ds))
+  -- and at the end, with no call too
   pub state-is : stateOf m ≡ run (fresh t) (map (λ d. callOf d) ds)
-  pub waiting-is : (r : ℕ) → waiting (stateOf m) r ≡ waiting (final t (map (λ d. callOf d) ds) .state) r
-  -- names change nothing, one fate each, the sum, the discarded count, the bound
+  pub waiting-is : (r : ℕ) → waiting (stateOf m) r ≡ waiting (run (fresh t) (map (λ d. callOf d) ds)) r
+  -- names change nothing, one fate each, the sum, the discarded count, the bound, after every call
   pub demand : Demand3 t (map (λ d. callOf d) ds)

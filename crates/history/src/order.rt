@@ -1,51 +1,67 @@
 // The history: its store, offers, heartbeats, gaps and readings.
-use crate::coding::encode;
-use crate::coding::read_entry;
-use crate::entry::Entry;
-use crate::entry::Moment;
-use crate::entry::Optional;
-use crate::entry::What;
-use crate::groups::announce;
-use crate::groups::committed_of;
-use crate::groups::find_group;
-use crate::groups::group_count;
-use crate::groups::hear_group;
-use crate::query::Query;
-use crate::rows::any_row;
-use crate::rows::count_rows;
-use crate::rows::find_row;
-use crate::rows::push_row;
-use crate::rows::remove_rows;
-use crate::words::put_word;
-use crate::words::whole;
-use crate::words::word;
-use crate::writers::find_writer;
-use crate::writers::hear_writer;
-use crate::writers::note_gap;
-use crate::writers::note_heartbeat;
-use crate::writers::note_seen;
-use crate::writers::writer_count;
-use group_order::number::clamp;
-use group_view::key::Key;
-use group_view::key::pack;
+use group_view::view::DigestRow;
+use group_view::view::Pair;
+use group_view::view::note_digests;
+use group_view::view::note_pairs;
+use guids::key::Key;
+use guids::key::pack;
+use readings::readings::ReleaseCounts;
+use readings::readings::reading_counts;
+use readings::readings::reading_held_for;
+use readings::readings::reading_is_empty;
+use readings::readings::reading_knows;
+use release::release::Released;
+use release::release::release_noted;
+use rules::number::clamp;
+use store::coding::encode;
+use store::coding::read_entry;
+use store::entry::Entry;
+use store::entry::Moment;
+use store::entry::Optional;
+use store::entry::What;
+use store::groups::announce;
+use store::groups::committed_of;
+use store::groups::find_group;
+use store::groups::group_count;
+use store::groups::hear_group;
+use store::query::Query;
+use store::rows::any_row;
+use store::rows::count_rows;
+use store::rows::entry_count;
+use store::rows::find_row;
+use store::rows::push_row;
+use store::rows::remove_rows;
+use store::words::Store;
+use store::words::put_word;
+use store::words::whole;
+use store::words::word;
+use store::writers::find_writer;
+use store::writers::hear_writer;
+use store::writers::note_gap;
+use store::writers::note_heartbeat;
+use store::writers::note_seen;
+use store::writers::writer_count;
 ghost use mathlib.Core.Path.{_≡_};
 ghost use mathlib.Core.Bool.{true, false, _||_};
 ghost use Prim.Native.Nat.{_<_, _≤_, _^_, min};
 ghost use lib.Dec.{ltb, leb};
 ghost use lib.ListN.{length, getD};
-ghost use Rattle.group_order.specs.Lists.{any, find, isSome};
-ghost use Rattle.group_order.specs.State.{fresh, knowsWriter, stored};
-ghost use Rattle.group_order.specs.Offer.{offer, heartbeat, gap, ninth, pair33, entryOf, place, isStored, isJoined, replaced};
-ghost use Rattle.group_order.specs.Run.{waiting, nothingWaits};
-ghost use Rattle.group_order.specs.Marks.{saw};
-ghost use Rattle.history.specs.Store.{stateOf, writersOf, rowsIn};
-ghost use Rattle.group_view.specs.Keys.{keyAs};
-ghost use Rattle.history.specs.Records.{optionalAs, momentAs, entryAs, rowAs, fits};
-ghost use Rattle.history.specs.Calls.{offerAs, heartbeatAs, gapAs, offeredAs, toldAs, countsAs, Kept, digestWord, Joins, JoinsSet, rowMark, Heard, live, Roomy, Appended, withLate};
+ghost use Rattle.laws.specs.Lists.{any, find, isSome};
+ghost use Rattle.rules.specs.State.{fresh, knowsWriter, stored};
+ghost use Rattle.rules.specs.Offer.{offer, heartbeat, gap, ninth, pair33, entryOf, place, isStored, isJoined, replaced};
+ghost use Rattle.rules.specs.Run.{waiting, nothingWaits};
+ghost use Rattle.rules.specs.Marks.{saw};
+ghost use Rattle.store.specs.Store.{stateOf, writersOf, rowsIn, rowMark, live};
+ghost use Rattle.guids.specs.Keys.{keyAs};
+ghost use Rattle.group_view.specs.View.{rowsAs};
+ghost use Rattle.store.specs.Records.{optionalAs, momentAs, entryAs, rowAs, fits};
+ghost use Rattle.history.specs.Calls.{offerAs, heartbeatAs, gapAs, offeredAs, toldAs, digestWord, Joins, JoinsSet, Heard, Roomy, Appended, withLate};
+ghost use Rattle.readings.specs.Counts.{countsAs};
+ghost use Rattle.release.specs.Released.{Kept, releasedAs, releaseTo};
 
 // The store: a header and three tables of words (specs/Store.antt).
 pub struct GroupOrder {
-    pub words: [u64; 6984],
+    pub words: Store,
 }
 
 pub struct Offer {
@@ -98,13 +114,6 @@ pub enum Accepted {
     PairOver32,
 }
 
-pub struct ReleaseCounts {
-    pub skipped_after_timeout: u64,
-    pub incomplete_sets: u64,
-    pub discarded_samples: u64,
-    pub late_samples: u64,
-}
-
 impl GroupOrder {
     pub const GROUP_TIMEOUT: u64 = 1_000_000_000;
 
@@ -117,7 +126,7 @@ impl GroupOrder {
         GroupOrder { words }
     }
 
-    pub fn offer(store: &mut [u64; 6984], o: Offer) -> Offered
+    pub fn offer(store: &mut Store, o: Offer) -> Offered
         ensures is { λ r. ⌜ (offeredAs r, stateOf (now (store .exit))) ≡ offer (stateOf (now (store .entry))) (offerAs o) ⌝ }
         ensures kept { λ r. ⌜ Kept (offeredAs r) (now (store .entry)) (now (store .exit)) ⌝ }
     {
@@ -150,7 +159,7 @@ impl GroupOrder {
         }
     }
 
-    pub fn heartbeat(store: &mut [u64; 6984], h: Heartbeat) -> Accepted
+    pub fn heartbeat(store: &mut Store, h: Heartbeat) -> Accepted
         ensures is { λ r. ⌜ (toldAs r, stateOf (now (store .exit))) ≡ heartbeat (stateOf (now (store .entry))) (heartbeatAs h) ⌝ }
         ensures kept { λ r. ⌜ Kept (toldAs r) (now (store .entry)) (now (store .exit)) ⌝ }
     {
@@ -181,7 +190,7 @@ impl GroupOrder {
         Accepted::Done
     }
 
-    pub fn gap(store: &mut [u64; 6984], x: Gap) -> Accepted
+    pub fn gap(store: &mut Store, x: Gap) -> Accepted
         ensures is { λ r. ⌜ (toldAs r, stateOf (now (store .exit))) ≡ gap (stateOf (now (store .entry))) (gapAs x) ⌝ }
         ensures kept { λ r. ⌜ Kept (toldAs r) (now (store .entry)) (now (store .exit)) ⌝ }
     {
@@ -205,54 +214,30 @@ impl GroupOrder {
     }
 
     // The samples of a reader that are pending or held.
-    pub fn held_for(store: &[u64; 6984], reader: u8) -> usize
+    pub fn held_for(store: &Store, reader: u8) -> usize
         ensures { λ r. ⌜ r ≡ waiting (stateOf (now (store .entry))) reader ⌝ }
     {
-        if 7 < reader {
-            return 0;
-        }
-        let n = entry_count(store);
-        count_rows(store, n, Query::of_reader(0, reader))
-            + count_rows(store, n, Query::of_reader(1, reader))
+        reading_held_for(store, reader)
     }
 
-    pub fn is_empty(store: &[u64; 6984]) -> bool
+    pub fn is_empty(store: &Store) -> bool
         ensures { λ r. ⌜ r ≡ nothingWaits (stateOf (now (store .entry))) ⌝ }
     {
-        let n = entry_count(store);
-        if any_row(store, n, Query::every(0)) {
-            return false;
-        }
-        !any_row(store, n, Query::samples(1))
+        reading_is_empty(store)
     }
 
-    pub fn counts(store: &[u64; 6984]) -> ReleaseCounts
+    pub fn counts(store: &Store) -> ReleaseCounts
         ensures { λ r. ⌜ countsAs r ≡ stateOf (now (store .entry)) .counts ⌝ }
     {
-        ReleaseCounts {
-            skipped_after_timeout: word(store, 4),
-            incomplete_sets: word(store, 5),
-            discarded_samples: word(store, 6),
-            late_samples: word(store, 7),
-        }
+        reading_counts(store)
     }
 
     // Whether a pair of group and writer is known.
-    pub fn knows(store: &[u64; 6984], group: [u8; 16], writer: [u8; 16]) -> bool
+    pub fn knows(store: &Store, group: [u8; 16], writer: [u8; 16]) -> bool
         ensures { λ r. ⌜ r ≡ knowsWriter group writer (writersOf (now (store .entry))) ⌝ }
     {
-        find_writer(store, pack(group), pack(writer)) < writer_count(store)
+        reading_knows(store, group, writer)
     }
-}
-
-pub(crate) fn entry_count(store: &[u64; 6984]) -> usize
-    ensures { λ r. ⌜ r ≡ min (getD (now (store .entry)) 2 0) 256 ⌝ }
-{
-    let n = word(store, 2);
-    if n < 256 {
-        return n as usize;
-    }
-    256
 }
 
 fn digest_word(d: Digest) -> u64
@@ -286,14 +271,14 @@ fn entry_of(o: Offer) -> Entry
     }
 }
 
-fn ninth_group(store: &[u64; 6984], group: Key) -> bool
+fn ninth_group(store: &Store, group: Key) -> bool
     ensures { λ r. ⌜ r ≡ ninth (keyAs group) (stateOf (now (store .entry))) ⌝ }
 {
     let n = group_count(store);
     find_group(store, group) == n && 8 <= n
 }
 
-fn pair_over_32(store: &[u64; 6984], group: Key, writer: Key) -> bool
+fn pair_over_32(store: &Store, group: Key, writer: Key) -> bool
     ensures { λ r. ⌜ r ≡ pair33 (keyAs group) (keyAs writer) (stateOf (now (store .entry))) ⌝ }
 {
     let n = writer_count(store);
@@ -301,7 +286,7 @@ fn pair_over_32(store: &[u64; 6984], group: Key, writer: Key) -> bool
 }
 
 // Whether 256 entries are stored; rows that are gone do not count.
-fn is_full(store: &[u64; 6984]) -> bool
+fn is_full(store: &Store) -> bool
     ensures { λ r. ⌜ r ≡ leb 256 (stored (stateOf (now (store .entry)))) ⌝ }
 {
     let n = entry_count(store);
@@ -318,7 +303,7 @@ enum Joining {
     Adds,
 }
 
-fn join_of(store: &[u64; 6984], group: Key, writer: Key, o: Offer) -> Joining
+fn join_of(store: &Store, group: Key, writer: Key, o: Offer) -> Joining
     requires { ⌜ (keyAs group ≡ o .group) × (keyAs writer ≡ o .writer) ⌝ }
     ensures { λ r. ⌜ Joins r (stateOf (now (store .entry)) .held) (offerAs o) ⌝ }
 {
@@ -334,7 +319,7 @@ fn join_of(store: &[u64; 6984], group: Key, writer: Key, o: Offer) -> Joining
     }
 }
 
-fn join_in_set(store: &[u64; 6984], group: Key, writer: Key, reader: u8, set: i64) -> Joining
+fn join_in_set(store: &Store, group: Key, writer: Key, reader: u8, set: i64) -> Joining
     ensures { λ r. ⌜ JoinsSet r (keyAs group) set (keyAs writer) reader (stateOf (now (store .entry)) .held) ⌝ }
 {
     let n = entry_count(store);
@@ -348,7 +333,7 @@ fn join_in_set(store: &[u64; 6984], group: Key, writer: Key, reader: u8, set: i6
 }
 
 // What an offer answers; nothing is changed.
-fn judge(store: &[u64; 6984], group: Key, writer: Key, o: Offer) -> Offered
+fn judge(store: &Store, group: Key, writer: Key, o: Offer) -> Offered
     requires { ⌜ (keyAs group ≡ o .group) × (keyAs writer ≡ o .writer) ⌝ }
     ensures { λ r. ⌜ offeredAs r ≡ offer (stateOf (now (store .entry))) (offerAs o) .0 ⌝ }
 {
@@ -380,14 +365,7 @@ fn judge(store: &[u64; 6984], group: Key, writer: Key, o: Offer) -> Offered
 }
 
 // The marks of an offer that is not refused: its group and writer are heard, its number seen, its digest stored.
-fn note_offer(
-    store: &mut [u64; 6984],
-    group: Key,
-    writer: Key,
-    reader: u8,
-    number: u64,
-    digest: u32,
-)
+fn note_offer(store: &mut Store, group: Key, writer: Key, reader: u8, number: u64, digest: u32)
     requires { ⌜ (ninth (keyAs group) (stateOf (now store)) ≡ false) × (pair33 (keyAs group) (keyAs writer) (stateOf (now store)) ≡ false) × (reader < 8) ⌝ }
     ensures { λ _. ⌜ Heard (keyAs group) (keyAs writer) (λ w. saw reader number digest w) (now (store .entry)) (now (store .exit)) ⌝ }
 {
@@ -397,7 +375,7 @@ fn note_offer(
 }
 
 // The rows in use, below 256: rows that are marked gone are dropped where there are 256.
-fn make_room(store: &mut [u64; 6984], n: usize) -> usize
+fn make_room(store: &mut Store, n: usize) -> usize
     requires { ⌜ (n ≤ 256) × (live (rowsIn n (now store)) < 256) ⌝ }
     ensures { λ r. ⌜ Roomy n r (now (store .entry)) (now (store .exit)) ⌝ }
 {
@@ -410,7 +388,7 @@ fn make_room(store: &mut [u64; 6984], n: usize) -> usize
 }
 
 // A row in use more, with the entry in a stage.
-fn append(store: &mut [u64; 6984], n: usize, e: Entry, stage: u64)
+fn append(store: &mut Store, n: usize, e: Entry, stage: u64)
     requires { ⌜ (n ≤ 256) × (live (rowsIn n (now store)) < 256) × (stage < 4) × (e .number < 2 ^ 63) ⌝ }
     ensures { λ _. ⌜ Appended n (rowAs stage e) (now (store .entry)) (now (store .exit)) ⌝ }
 {
@@ -420,7 +398,7 @@ fn append(store: &mut [u64; 6984], n: usize, e: Entry, stage: u64)
     put_word(store, 2, (k + 1) as u64);
 }
 
-fn store_pending(store: &mut [u64; 6984], e: Entry)
+fn store_pending(store: &mut Store, e: Entry)
     requires { ⌜ (stored (stateOf (now store)) < 256) × (e .number < 2 ^ 63) ⌝ }
     ensures is { λ _. ⌜ stateOf (now (store .exit)) ≡ place isStored (entryAs e) (stateOf (now (store .entry))) ⌝ }
 {
@@ -429,7 +407,7 @@ fn store_pending(store: &mut [u64; 6984], e: Entry)
 }
 
 // The mark of the row that the query finds first, if any.
-fn mark_of(store: &[u64; 6984], n: usize, q: Query) -> Moment
+fn mark_of(store: &Store, n: usize, q: Query) -> Moment
     requires { ⌜ n ≤ 512 ⌝ }
     ensures { λ r. ⌜ momentAs r ≡ rowMark (find (λ x. fits q x) (rowsIn n (now (store .entry)))) ⌝ }
 {
@@ -442,7 +420,7 @@ fn mark_of(store: &[u64; 6984], n: usize, q: Query) -> Moment
 }
 
 // An end joins its set, which it has, in place of its pair's earlier end, and takes that one's mark over.
-fn join_end(store: &mut [u64; 6984], group: Key, writer: Key, e: Entry)
+fn join_end(store: &mut Store, group: Key, writer: Key, e: Entry)
     requires { ⌜ (keyAs group ≡ e .group) × (keyAs writer ≡ e .writer) × (e .number < 2 ^ 63) × (isSome (optionalAs (e .set)) ≡ true) × (any (λ h. replaced (entryAs e) h) (stateOf (now store) .held) || ltb (stored (stateOf (now store))) 256 ≡ true) ⌝ }
     ensures is { λ _. ⌜ stateOf (now (store .exit)) ≡ place isJoined (entryAs e) (stateOf (now (store .entry))) ⌝ }
 {
@@ -472,12 +450,31 @@ fn join_end(store: &mut [u64; 6984], group: Key, writer: Key, e: Entry)
     }
 }
 
-fn count_late(store: &mut [u64; 6984])
+fn count_late(store: &mut Store)
     ensures is { λ _. ⌜ stateOf (now (store .exit)) ≡ withLate (stateOf (now (store .entry))) ⌝ }
 {
     whole(store);
     let late = word(store, 7);
     if late < 18446744073709551615 {
         put_word(store, 7, late + 1);
+    }
+}
+
+impl GroupOrder {
+    // The release on lists of counted rows and digest rows, which it notes in a view of its own.
+    pub fn release(
+        store: &mut Store,
+        counted: &[Pair],
+        digests: &[DigestRow],
+        time: u64,
+        out: &mut [u64],
+    ) -> Released
+        ensures is { λ r. ⌜ (releasedAs r, stateOf (now (store .exit)), now (out .exit)) ≡ releaseTo (stateOf (now (store .entry))) (rowsAs (now (counted .entry)) (now (digests .entry))) time (now (out .entry)) ⌝ }
+        ensures kept { λ r. ⌜ Kept (releasedAs r) (now (store .entry)) (now (store .exit)) ⌝ }
+    {
+        let mut view = [0; 1307];
+        note_pairs(&mut view, counted);
+        note_digests(&mut view, digests);
+        release_noted(store, &view, time, out)
     }
 }

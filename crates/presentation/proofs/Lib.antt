@@ -1,3 +1,1 @@
 pub mod PLines
-pub mod TurnLaws
-pub mod TurnCounts

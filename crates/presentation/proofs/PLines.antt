@@ -2,8 +2,9 @@
 use mathlib.Core.Path.{_≡_, refl}
 use mathlib.Core.List.{[], _∷_}
 use lib.IntN.{pos, negsuc}
-use Rattle.coherent_set.specs.Marker.{bytesOf, high, low, wire}
-use Rattle.group_order.proofs.Figures as F
+use Rattle.laws.specs.Bytes.{bytesOf}
+use Rattle.coherent_set.specs.Marker.{high, low, wire}
+use Rattle.rules.proofs.Figures as F
 use Rattle.filter_hold.specs.Tbf.{timeAfter, timeOf}
 
 pub record PLines : Type 0 where

@@ -4,7 +4,7 @@ use crate::say::say_bad;
 use decimal::put_bytes;
 use hex::put_hex;
 use hex::read_hex;
-use presentation::ordering::participant_group_key;
+use turn::items::participant_group_key;
 
 pub(crate) fn run_key(field: &[u8], out: &mut Out) -> usize {
     let mut guid = [0u8; 16];

@@ -1,4 +1,4 @@
-// The progress rows that wait for the next turn.
+// The rows that wait for the next turn, as lists of records: progress rows, counted rows and digest rows.
 use crate::say::Out;
 use crate::say::say_bad;
 use crate::say::say_ok;
@@ -8,13 +8,21 @@ use call_line::parse::Parsed;
 use call_line::parse::parse;
 use decimal::field_end;
 use decimal::put_bytes;
-use presentation::ordering::Beat;
-use presentation::ordering::Heard;
-use presentation::ordering::Progress;
+use group_view::view::DigestRow;
+use group_view::view::Pair;
+use turn::steps::Beat;
+use turn::steps::Heard;
+use turn::steps::Progress;
 
+// One counted row and one digest row more than a view takes, so that there can be too many.
 pub(crate) struct Rows {
     pub list: [Progress; 64],
     pub count: usize,
+    pub counted: [Pair; 257],
+    pub pairs: usize,
+    pub digests: [DigestRow; 9],
+    pub digest_rows: usize,
+    pub spread: bool, // how GUIDs are spelled
 }
 
 // The rows after a call, and how many bytes of the answer there are.
@@ -73,7 +81,83 @@ pub(crate) fn no_rows() -> Rows {
     };
     let row = row_of(line, Heard::Nothing);
     let list = [row; 64];
-    Rows { list, count: 0 }
+    let group = row.group;
+    let pair = Pair {
+        group,
+        writer: group,
+        reader: 0,
+    };
+    let counted = [pair; 257];
+    let digest = DigestRow { group, digest: 0 };
+    let digests = [digest; 9];
+    Rows {
+        list,
+        count: 0,
+        counted,
+        pairs: 0,
+        digests,
+        digest_rows: 0,
+        spread: false,
+    }
+}
+
+// GUID k, which is fifteen zero bytes and k, or, spread, sixteen bytes that differ in each place from those of any other.
+pub(crate) fn spell(spread: bool, guid: [u8; 16]) -> [u8; 16] {
+    if !spread {
+        return guid;
+    }
+    let k = guid[15];
+    [
+        k,
+        k ^ 17,
+        k ^ 34,
+        k ^ 51,
+        k ^ 68,
+        k ^ 85,
+        k ^ 102,
+        k ^ 119,
+        k ^ 136,
+        k ^ 153,
+        k ^ 170,
+        k ^ 187,
+        k ^ 204,
+        k ^ 221,
+        k ^ 238,
+        k ^ 255,
+    ]
+}
+
+pub(crate) fn add_pair(rows: Rows, pair: Pair) -> Rows {
+    let mut rows = rows;
+    let at = rows.pairs;
+    if at < 257 {
+        let group = pair.group;
+        let writer = pair.writer;
+        let group = spell(rows.spread, group);
+        let writer = spell(rows.spread, writer);
+        rows.counted[at] = Pair {
+            group,
+            writer,
+            reader: pair.reader,
+        };
+        rows.pairs = at + 1;
+    }
+    rows
+}
+
+pub(crate) fn add_digest(rows: Rows, digest: DigestRow) -> Rows {
+    let mut rows = rows;
+    let at = rows.digest_rows;
+    if at < 9 {
+        let group = digest.group;
+        let group = spell(rows.spread, group);
+        rows.digests[at] = DigestRow {
+            group,
+            digest: digest.digest,
+        };
+        rows.digest_rows = at + 1;
+    }
+    rows
 }
 
 fn add_row(rows: Rows, row: Progress, out: &mut Out) -> Answer {
@@ -82,7 +166,18 @@ fn add_row(rows: Rows, row: Progress, out: &mut Out) -> Answer {
     if 63 < count {
         return bad(rows, out);
     }
-    rows.list[count] = row;
+    let group = row.group;
+    let writer = row.writer;
+    let heartbeat = row.heartbeat;
+    let group = spell(rows.spread, group);
+    let writer = spell(rows.spread, writer);
+    rows.list[count] = Progress {
+        group,
+        writer,
+        reader: row.reader,
+        heartbeat,
+        gap_end: row.gap_end,
+    };
     rows.count = count + 1;
     said(rows, say_ok(out))
 }

@@ -3,8 +3,8 @@ use decimal::put_bytes;
 use decimal::put_unsigned;
 use history::order::Accepted;
 use history::order::Offered;
-use history::order::ReleaseCounts;
 use libc::STDOUT_FILENO;
+use readings::readings::ReleaseCounts;
 
 // Room for every answer: 256 samples of at most 13 bytes, and eight counts.
 pub(crate) type Out = [u8; 4096];

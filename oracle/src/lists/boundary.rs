@@ -61,30 +61,186 @@ fn around(rng: &mut Rng, lines: &mut Vec<String>, writer: fn(&mut Rng) -> (u8, u
     }
 }
 
-/// Rows around their limits, and a release after each of the last.
+/// Rows around their limits, in any order, and a release after each of the
+/// last.
 pub(super) fn rows(rng: &mut Rng) -> Vec<String> {
-    let mut lines = vec![text::fresh(10)];
+    let mut rows = Vec::new();
     for digest in 0..rng.between(6, 9) {
         let group = if rng.once_in(2) { 1 } else { digest as u8 };
         let other = u32::from(rng.once_in(30));
-        lines.push(text::digest(group, 7 + other));
+        rows.push(text::digest(group, 7 + other));
     }
-    let rows = *rng.pick(&[2, 254, 255, 256, 257]);
     let counted = |rng: &mut Rng| {
         let reader = if rng.once_in(600) { 8 } else { rng.below(8) };
         text::counted(Pair(rng.below(3) as u8, rng.below(4) as u8, reader as u8))
     };
-    lines.extend((0..rows).map(|_| counted(rng)));
+    let many = *rng.pick(&[2, 254, 255, 256, 257, 257, 300, 513]);
+    rows.extend((0..many).map(|_| counted(rng)));
+    if rng.once_in(2) {
+        rng.shuffle(&mut rows);
+    }
+    let mut lines = vec![text::fresh(10)];
+    lines.extend(rows);
     for number in 1..=rng.between(2, 6) {
         let pair = Pair(rng.below(3) as u8, rng.below(4) as u8, rng.below(8) as u8);
         lines.push(text::sample(pair, Info(number, None, 7), number as u32, 0));
     }
     for time in [0, 9, 10, 20] {
         lines.push(text::release(time));
-        if rng.once_in(2) {
-            lines.push(counted(rng));
+        match rng.below(4) {
+            0 | 1 => lines.push(counted(rng)),
+            2 => lines.push(text::digest(1, 7)),
+            _ => {}
         }
     }
+    lines
+}
+
+/// A call refused for a 33rd pair of group and writer, or for the 256
+/// entries, then what would show that it left something behind.
+pub(super) fn refused(rng: &mut Rng) -> Vec<String> {
+    let mut lines = vec![
+        text::fresh(10),
+        text::counted(Pair(1, 1, 0)),
+        text::counted(Pair(1, 2, 1)),
+        text::digest(1, 7),
+    ];
+    // Writer 2 has no number up to 9; writer 1 may have them all.
+    let last = *rng.pick(&[0, 9, 9]);
+    lines.push(text::heartbeat(1, 1, [1, last, 9], [Some(7), None]));
+    lines.push(text::heartbeat(1, 2, [1, 0, 9], [None, None]));
+    let full = !rng.once_in(3);
+    if full {
+        let fill = 1..=256;
+        lines.extend(fill.map(|n| text::sample(Pair(2, 1, 0), Info(n, None, 7), n as u32, 0)));
+    } else {
+        let fill = 0..30;
+        lines.extend(fill.map(|pair| text::gap(Pair(2 + pair % 5, pair / 5, 0), 0)));
+    }
+    for _ in 0..rng.between(1, 2) {
+        let writer = if full { rng.between(1, 3) } else { 3 } as u8;
+        let pair = Pair(1, writer, (writer - 1) % 2);
+        let number = rng.between(1, 6);
+        let info = Info(
+            number,
+            *rng.pick(&[None, Some(1)]),
+            *rng.pick(&[7, 7, 7, 8]),
+        );
+        lines.push(match rng.below(if full { 4 } else { 6 }) {
+            0 => text::end(pair, info, Some(1), Some(2), 0),
+            4 => text::gap(pair, number),
+            5 => text::heartbeat(1, writer, [1, 0, 9 + number], [Some(8), None]),
+            _ => text::sample(pair, info, 70, 0),
+        });
+    }
+    lines.push(text::release(0));
+    for time in [0, 9, 10] {
+        let (writer, number) = (rng.between(1, 3) as u8, rng.between(1, 12));
+        let pair = Pair(1, writer, (writer - 1) % 2);
+        lines.push(text::sample(pair, Info(number, None, 7), 71, 0));
+        lines.push(text::release(time));
+    }
+    lines
+}
+
+/// Holes of up to some hundred thousand numbers. Two pairs are past all of
+/// them, or not past one at an end or within.
+pub(super) fn holes(rng: &mut Rng) -> Vec<String> {
+    let far = *rng.pick(&[65_536, 99_999, 100_000, 100_001, 131_072, 200_001, 262_145]);
+    let hole = match rng.once_in(3) {
+        true => far + rng.between(-1, 1),
+        false => *rng.pick(&[2, 3, 255, 1000]),
+    };
+    let mut lines = vec![text::fresh(10), text::digest(1, 7)];
+    let start = rng.between(0, 2);
+    for number in 1..=start {
+        lines.push(text::sample(
+            Pair(1, 1, 0),
+            Info(number, None, 7),
+            number as u32,
+            0,
+        ));
+    }
+    let next = start + hole + 1;
+    for writer in 1..=2 {
+        let pair = Pair(1, writer, writer - 1);
+        lines.push(text::counted(pair));
+        let within = start + rng.between(1, hole);
+        // Past all; all but the last; all from one on, by the range; all but
+        // one, by the range.
+        let (gap, first, last) = match rng.below(6) {
+            0 | 1 => (next - 1, 1, next),
+            2 => (next - 2, 1, next),
+            3 => (within, 1, within),
+            4 => (0, within, within),
+            _ => (0, 1, 0),
+        };
+        lines.push(text::gap(pair, gap));
+        lines.push(text::heartbeat(
+            1,
+            writer,
+            [first, last, next],
+            [Some(7), None],
+        ));
+    }
+    lines.push(text::sample(Pair(1, 2, 1), Info(next, None, 7), 9, 0));
+    lines.extend([9, 10].map(text::release));
+    lines
+}
+
+/// Sets of both signs and all sizes that one number ends; the lowest is
+/// handed out first.
+pub(super) fn sets(rng: &mut Rng) -> Vec<String> {
+    let ends = [
+        i64::MIN,
+        -(1 << 40),
+        -(1 << 32),
+        -(1 << 31),
+        0,
+        1 << 31,
+        1 << 32,
+        1 << 40,
+    ];
+    let mut lines = vec![text::fresh(10)];
+    let mut number = 1;
+    for item in 0..rng.between(2, 7) {
+        let end: i64 = *rng.pick(&ends);
+        let set = Some(end.saturating_add(rng.between(-2, 2)));
+        let pair = Pair(1, 1, rng.below(8) as u8);
+        for _ in 0..rng.between(0, 2) {
+            lines.push(text::sample(pair, Info(number, set, 7), item as u32, 0));
+        }
+        lines.push(text::end(pair, Info(number, set, 7), None, None, 0));
+        number += i64::from(rng.once_in(8));
+    }
+    lines.extend([0, 10].map(text::release));
+    lines
+}
+
+/// Calls that a random list has no room for: lines of up to megabytes, and
+/// holes of millions of numbers that no counted pair stands in.
+pub(super) fn limits() -> Vec<String> {
+    let mut lines = vec![text::fresh(10), text::digest(1, 7)];
+    let sample = |number| text::sample(Pair(1, 1, 0), Info(number, None, 7), 9, 0);
+    let mut next = 1;
+    for hole in [0, 300_000, 1_000_001, (1 << 24) + 1] {
+        next += hole;
+        lines.push(text::heartbeat(1, 1, [1, 0, next], [Some(7), None]));
+        lines.extend([sample(next), text::release(0)]);
+        next += 1;
+    }
+    for bits in [12, 16, 20, 22] {
+        for more in [-1, 0, 1] {
+            let length = ((1 << bits) + more) as usize;
+            // A good line stands behind what fills the long one.
+            let behind = sample(next);
+            lines.push("x".repeat(length));
+            lines.push("0".repeat(length - behind.len()) + &behind);
+            lines.push(behind);
+            next += 1;
+        }
+    }
+    lines.push(text::release(0));
     lines
 }
 

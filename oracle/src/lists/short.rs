@@ -84,14 +84,14 @@ const ALPHABETS: [Alphabet; 11] = [
         ],
         after: &["E 1 2 1 1 1 7 - - 3", "R 9", "R 10"],
     },
-    // One number that ends several sets.
+    // One number that ends several sets, of both signs.
     Alphabet {
         before: &["T 10", "V 1 1 0", "D 1 7", "S 1 1 0 1 2 7 10 0"],
         letters: &[
             "E 1 1 0 2 2 7 1 2 0",
             "E 1 1 0 2 1 7 - 2 0",
-            "E 1 1 0 2 3 7 - 2 0",
-            "S 1 1 0 2 3 7 11 0",
+            "E 1 1 0 2 -3 7 - 2 0",
+            "S 1 1 0 2 -3 7 11 0",
             "E 1 2 1 1 2 7 - 2 0",
             "V 1 2 1",
             "S 1 1 0 3 - 7 12 0",

@@ -9,7 +9,7 @@ use mir.Syntax.{w64}
 use mir.Val.{ofZ, toZ}
 use mir.Facts.{toZ-ofZ}
 use mir.ValLaws.{toZ-pos, ofZ-fits}
-use Rattle.coherent_set.proofs.Whole.{below-bits, above-bits}
+use Rattle.laws.proofs.Whole.{below-bits, above-bits}
 use Rattle.coherent_set.proofs.bits_of.Statement.{statement}
 use Rattle.coherent_set.proofs.bits_of.Tie as tie
 use Rattle.coherent_set.proofs.bits_of.Reads as reads

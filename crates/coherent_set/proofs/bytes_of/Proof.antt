@@ -1,6 +1,6 @@
 -- The definition at 8, each byte written out.
 use native.Mathlib.Nat.{div-one}
-use Rattle.coherent_set.specs.Marker.{bytesOf}
+use Rattle.laws.specs.Bytes.{bytesOf}
 use borrow.Author.Needs.{needs}
 use Rattle.coherent_set.proofs.bytes_of.Statement.{statement}
 use Rattle.coherent_set.proofs.bytes_of.Tie as tie

@@ -7,8 +7,8 @@ use mathlib.Core.List.{List}
 use denote.Ref.{now}
 use lib.ListN.{length, getD, take}
 use lib.Seq.{take-all}
-use Rattle.coherent_set.specs.Marker.{numberOf}
-use Rattle.coherent_set.proofs.Bytes.{numberOf-take-suc, numberOf-take-lt}
+use Rattle.laws.specs.Bytes.{numberOf}
+use Rattle.laws.proofs.Bytes.{numberOf-take-suc, numberOf-take-lt}
 use Rattle.coherent_set.proofs.number_of.Statement.{statement}
 use Rattle.coherent_set.proofs.number_of.Tie as tie
 use Rattle.coherent_set.proofs.number_of.Reads as reads

@@ -1,8 +1,7 @@
 -- `fields::byte_at` meets its contract.
 use Prim.Native.Nat.{_-_, _^_}
 use native.Mathlib.Omega.{arith}
-use Rattle.fields.specs.Fields.{fieldAt, long, byte}
-use Rattle.fields.specs.Fields.{told}
+use Rattle.fields.specs.Fields.{fieldAt, long, byte, told}
 use Rattle.fields.proofs.Told.{told-within, told-above}
 use borrow.Author.Needs.{needs}
 use Rattle.fields.proofs.byte_at.Statement.{statement}

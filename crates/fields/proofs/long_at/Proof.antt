@@ -1,8 +1,7 @@
 -- `fields::long_at` meets its contract.
 use mathlib.Core.Path.{sym, ap, _∙_}
 use Rattle.decimal.specs.Read.{unsignedAs, readUnsigned}
-use Rattle.fields.specs.Fields.{long}
-use Rattle.fields.specs.Fields.{told}
+use Rattle.fields.specs.Fields.{long, told}
 use borrow.Author.Needs.{needs}
 use Rattle.fields.proofs.long_at.Statement.{statement}
 use Rattle.fields.proofs.long_at.Tie as tie

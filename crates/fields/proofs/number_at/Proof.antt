@@ -3,8 +3,7 @@ use mir.Facts.{toZ-ofZ}
 use mathlib.Core.Bool.{true}
 use mathlib.Core.Path.{sym, ap, _∙_}
 use Rattle.decimal.specs.Read.{signedAs, readSigned}
-use Rattle.fields.specs.Fields.{number}
-use Rattle.fields.specs.Fields.{told}
+use Rattle.fields.specs.Fields.{number, told}
 use borrow.Author.Needs.{needs}
 use Rattle.fields.proofs.number_at.Statement.{statement}
 use Rattle.fields.proofs.number_at.Tie as tie

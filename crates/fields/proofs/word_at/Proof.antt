@@ -1,8 +1,7 @@
 -- `fields::word_at` meets its contract.
 use Prim.Native.Nat.{_-_, _^_}
 use native.Mathlib.Omega.{arith}
-use Rattle.fields.specs.Fields.{fieldAt, long, word}
-use Rattle.fields.specs.Fields.{told}
+use Rattle.fields.specs.Fields.{fieldAt, long, word, told}
 use Rattle.fields.proofs.Told.{told-within, told-above}
 use borrow.Author.Needs.{needs}
 use Rattle.fields.proofs.word_at.Statement.{statement}

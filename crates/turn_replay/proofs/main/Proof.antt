@@ -5,10 +5,10 @@ use Rattle.turn_replay.proofs.main.Statement.{statement}
 use Rattle.turn_replay.proofs.main.Tie as tie
 
 abbrev Inv-loop : tie.InvT-loop
-Inv-loop store₀ view₀ rows₀ chunk₀ line₀ input₀ lines₀ store view rows chunk line input lines = Unit {0}
+Inv-loop store₀ rows₀ chunk₀ line₀ input₀ lines₀ store rows chunk line input lines = Unit {0}
 
 abbrev μ-loop : tie.MeasureT-loop
-μ-loop store₀ view₀ rows₀ chunk₀ line₀ input₀ lines₀ store view rows chunk line input lines = lines
+μ-loop store₀ rows₀ chunk₀ line₀ input₀ lines₀ store rows chunk line input lines = lines
 
 new-requires : tie.Need-new-requires Inv-loop μ-loop
 new-requires c κs = search needs

@@ -2,7 +2,7 @@
 use mir.Facts.{toZ-ofZ}
 use mathlib.Core.Option.{some}
 use mathlib.Core.Path.{sym, ap, _∙_}
-use Rattle.history.specs.Records.{optionalAs}
+use Rattle.store.specs.Records.{optionalAs}
 use Rattle.fields.specs.Fields.{fieldAt, number, told}
 use Rattle.call_line.specs.Line.{numberIf}
 use Rattle.call_line.proofs.Told.{is-dash, no-dash}

@@ -1,6 +1,6 @@
 -- `call_line::parse::end_line` meets its contract.
 use mathlib.Core.Path.{_∙_}
-use Rattle.history.specs.Records.{whatAs}
+use Rattle.store.specs.Records.{whatAs}
 use Rattle.call_line.proofs.Lines.{end-told}
 use borrow.Author.Needs.{needs}
 use Rattle.call_line.proofs.parse.end_line.Statement.{statement}

@@ -2,7 +2,7 @@
 use mathlib.Core.Bool.{true, false}
 use mir.Syntax.{w64}
 use mir.ValLaws.{toZ-ofZ}
-use Rattle.history.specs.Records.{whatAs}
+use Rattle.store.specs.Records.{whatAs}
 use Rattle.fields.specs.Fields.{told}
 use Rattle.call_line.specs.Parsed.{offerOf, parsedAs}
 use Rattle.call_line.proofs.Lines.{offer-told}

@@ -1,6 +1,6 @@
 -- `calls::say::say_counts` meets its contract.
 use borrow.Author.Needs.{needs}
-use Rattle.history.specs.Calls.{countsAs}
+use Rattle.readings.specs.Counts.{countsAs}
 use Rattle.calls.specs.Run.{countsText}
 use Rattle.calls.proofs.Saying.{said, said-both}
 use Rattle.calls.proofs.say.say_counts.Statement.{statement}

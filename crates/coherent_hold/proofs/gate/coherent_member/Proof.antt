@@ -1,6 +1,6 @@
 -- `coherent_member`: an end has no set mark.
 use borrow.Author.Needs.{needs}
-use Rattle.history.specs.Records.{optionalAs}
+use Rattle.store.specs.Records.{optionalAs}
 use Rattle.coherent_hold.specs.Gate.{memberMark, itemAs}
 use Rattle.coherent_hold.proofs.gate.coherent_member.Statement.{statement}
 use Rattle.coherent_hold.proofs.gate.coherent_member.Tie as tie

@@ -5,11 +5,11 @@ use native.Mathlib.Omega.{arith}
 use lib.Seq.{drop-length}
 use lib.ListN.{length, drop}
 use borrow.Author.Needs.{needs}
-use Rattle.group_order.specs.Lists.{keep, count}
-use Rattle.history.specs.Records.{optionalAs}
-use Rattle.group_view.proofs.Loops.{count-hit, count-miss}
+use Rattle.laws.specs.Lists.{keep, count}
+use Rattle.store.specs.Records.{optionalAs}
+use Rattle.laws.proofs.Loops.{count-hit, count-miss}
 use Rattle.coherent_hold.specs.Gate.{leaves, holdAs}
-use Rattle.filter_hold.proofs.Arrays.{arr-len}
+use Rattle.laws.proofs.Arrays.{arr-len}
 use Rattle.coherent_hold.proofs.GateLaws.{blank, hold-few, hold-from}
 use Rattle.coherent_hold.proofs.gate.count_released.Statement.{statement}
 use Rattle.coherent_hold.proofs.gate.count_released.Tie as tie

@@ -1,8 +1,8 @@
 -- `end_set`: whole or short, the writer's members leave the hold.
 use mathlib.Core.Path.{refl, sym, _∙_}
 use borrow.Author.Needs.{needs}
-use Rattle.group_order.specs.Lists.{count}
-use Rattle.history.specs.Records.{optionalAs}
+use Rattle.laws.specs.Lists.{count}
+use Rattle.store.specs.Records.{optionalAs}
 use Rattle.coherent_hold.specs.Gate.{answerAs}
 use Rattle.coherent_hold.proofs.GateCalls.{ended-whole, ended-short}
 use Rattle.coherent_hold.proofs.gate.end_set.Statement.{statement}

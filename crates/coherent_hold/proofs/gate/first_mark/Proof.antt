@@ -8,10 +8,10 @@ use lib.Seq.{drop-length}
 use mir.Val.{ofZ, toZ}
 use mir.Syntax.{w64}
 use borrow.Author.Needs.{needs}
-use Rattle.group_order.specs.Lists.{keep}
-use Rattle.history.specs.Records.{optionalAs}
+use Rattle.laws.specs.Lists.{keep}
+use Rattle.store.specs.Records.{optionalAs}
 use Rattle.coherent_hold.specs.Gate.{memberAs, leaves, firstMark, holdAs}
-use Rattle.filter_hold.proofs.Arrays.{arr-len}
+use Rattle.laws.proofs.Arrays.{arr-len}
 use Rattle.coherent_hold.proofs.GateLaws.{blank, hold-few, hold-from, first-hit, first-miss}
 use Rattle.coherent_hold.proofs.gate.first_mark.Statement.{statement}
 use Rattle.coherent_hold.proofs.gate.first_mark.Tie as tie

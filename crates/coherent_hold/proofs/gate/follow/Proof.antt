@@ -2,7 +2,7 @@
 use mathlib.Core.Path.{refl}
 use native.Mathlib.Omega.{arith}
 use borrow.Author.Needs.{needs}
-use Rattle.history.specs.Records.{optionalAs}
+use Rattle.store.specs.Records.{optionalAs}
 use Rattle.coherent_hold.specs.Gate.{itemAs, answerAs}
 use Rattle.coherent_hold.proofs.GateCalls.{written-room, followed-is}
 use Rattle.coherent_hold.proofs.gate.follow.Statement.{statement}

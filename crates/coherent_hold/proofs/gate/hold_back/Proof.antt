@@ -7,10 +7,11 @@ use lib.ListN.{length}
 use mir.Val.{ofZ, toZ}
 use mir.Syntax.{w64}
 use borrow.Author.Needs.{needs}
-use Rattle.history.specs.declared.entry.Optional.the-variants.{Present}
-use Rattle.history.specs.Records.{optionalAs}
-use Rattle.coherent_hold.specs.Gate.{memberAs, leftBy, holdAs, callAs, answerAs, Kept}
-use Rattle.filter_hold.proofs.Arrays.{arr-len}
+use Rattle.store.specs.declared.entry.Optional.the-variants.{Present}
+use Rattle.laws.specs.Answer.{Kept}
+use Rattle.store.specs.Records.{optionalAs}
+use Rattle.coherent_hold.specs.Gate.{memberAs, leftBy, holdAs, callAs, answerAs}
+use Rattle.laws.proofs.Arrays.{arr-len}
 use Rattle.coherent_hold.proofs.GateLaws.{hold-length}
 use Rattle.coherent_hold.proofs.GateCalls.{full, not-full, held-is}
 use Rattle.coherent_hold.proofs.gate.hold_back.Statement.{statement}

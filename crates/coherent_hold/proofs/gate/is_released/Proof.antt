@@ -5,9 +5,9 @@ use mir.ValLaws.{ofZ-fits, toZ-ofZ}
 use mir.Val.{SFits, ofZ}
 use mir.Syntax.{w64}
 use borrow.Author.Needs.{needs}
-use Rattle.coherent_set.specs.Answer.{eqZ}
-use Rattle.history.specs.Records.{optionalAs}
-use Rattle.history.proofs.RowLaws.{bits-eqZ}
+use Rattle.laws.specs.Whole.{eqZ}
+use Rattle.store.specs.Records.{optionalAs}
+use Rattle.store.proofs.RowLaws.{bits-eqZ}
 use Rattle.coherent_hold.specs.Gate.{leaves, memberAs}
 use Rattle.coherent_hold.proofs.gate.is_released.Statement.{statement}
 use Rattle.coherent_hold.proofs.gate.is_released.Tie as tie

@@ -1,6 +1,6 @@
 -- `is_same` asks the comparison of GUIDs.
 use borrow.Author.Needs.{needs}
-use Rattle.group_order.specs.Answers.{orderAs}
+use Rattle.guids.specs.Guid.{orderAs}
 use Rattle.coherent_hold.proofs.GateLaws.{same-told}
 use Rattle.coherent_hold.proofs.gate.is_same.Statement.{statement}
 use Rattle.coherent_hold.proofs.gate.is_same.Tie as tie

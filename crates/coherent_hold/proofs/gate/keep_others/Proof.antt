@@ -5,10 +5,10 @@ use mathlib.Core.Bool.{not}
 use native.Mathlib.Omega.{arith}
 use lib.ListN.{length}
 use borrow.Author.Needs.{needs}
-use Rattle.history.specs.Records.{optionalAs}
+use Rattle.store.specs.Records.{optionalAs}
 use Rattle.coherent_hold.specs.Gate.{leaves, memberAs}
-use Rattle.filter_hold.proofs.Arrays.{arr-len}
-use Rattle.filter_hold.proofs.Packing.{Packed, packed-start, packed-end, packed-moves, packed-stays}
+use Rattle.laws.proofs.Arrays.{arr-len}
+use Rattle.laws.proofs.Packing.{Packed, packed-start, packed-end, packed-moves, packed-stays}
 use Rattle.coherent_hold.proofs.GateLaws.{hold-length, hold-kept}
 use Rattle.coherent_hold.proofs.gate.keep_others.Statement.{statement}
 use Rattle.coherent_hold.proofs.gate.keep_others.Tie as tie

@@ -3,7 +3,7 @@ use mathlib.Core.Option.{none}
 use mathlib.Core.List.{[], _∷_}
 use mathlib.Core.Path.{refl, sym, ap, _∙_}
 use borrow.Author.Needs.{needs}
-use Rattle.coherent_set.specs.Answer.{answered}
+use Rattle.laws.specs.Answer.{answered}
 use Rattle.coherent_hold.specs.Gate.{itemAs, holdAs, answerAs, leftBy}
 use Rattle.coherent_hold.proofs.GateLaws.{written-none, written-one}
 use Rattle.coherent_hold.proofs.GateCalls.{passed-end, passed-other, left-is}

@@ -1,7 +1,7 @@
 -- `set_is_complete`: each case of the flag is a clause of the definition.
 use borrow.Author.Needs.{needs}
-use Rattle.group_order.specs.Lists.{count}
-use Rattle.history.specs.Records.{optionalAs}
+use Rattle.laws.specs.Lists.{count}
+use Rattle.store.specs.Records.{optionalAs}
 use Rattle.coherent_hold.specs.Gate.{flagAs}
 use Rattle.coherent_hold.proofs.gate.set_is_complete.Statement.{statement}
 use Rattle.coherent_hold.proofs.gate.set_is_complete.Tie as tie

@@ -1,6 +1,6 @@
 -- `tag_of`: the four cases of kind and set mark.
 use borrow.Author.Needs.{needs}
-use Rattle.history.specs.Records.{optionalAs}
+use Rattle.store.specs.Records.{optionalAs}
 use Rattle.coherent_hold.proofs.gate.tag_of.Statement.{statement}
 use Rattle.coherent_hold.proofs.gate.tag_of.Tie as tie
 

@@ -1,8 +1,8 @@
 -- `words_of`: the five words of the definition.
 use native.Mathlib.Omega.{arith}
 use borrow.Author.Needs.{needs}
-use Rattle.group_view.specs.Keys.{keyAs}
-use Rattle.group_view.proofs.Keys.{high-word, low-word}
+use Rattle.guids.specs.Keys.{keyAs}
+use Rattle.guids.proofs.Keys.{high-word, low-word}
 use Rattle.coherent_hold.specs.Gate.{wordsOf, itemAs}
 use Rattle.coherent_hold.proofs.gate.words_of.Statement.{statement}
 use Rattle.coherent_hold.proofs.gate.words_of.Tie as tie

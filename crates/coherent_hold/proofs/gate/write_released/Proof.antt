@@ -5,10 +5,10 @@ use native.Mathlib.Omega.{arith}
 use lib.Seq.{take-length, paste}
 use lib.ListN.{getD, length-take, length, take}
 use borrow.Author.Needs.{needs}
-use Rattle.group_order.specs.Lists.{count}
-use Rattle.history.specs.Records.{optionalAs}
+use Rattle.laws.specs.Lists.{count}
+use Rattle.store.specs.Records.{optionalAs}
 use Rattle.coherent_hold.specs.Gate.{wordsOf, leaves, memberAs, holdAs}
-use Rattle.filter_hold.proofs.Arrays.{arr-len}
+use Rattle.laws.proofs.Arrays.{arr-len}
 use Rattle.coherent_hold.proofs.GateLaws.{blank, writing-fewer, hold-few, hold-upto, Writing, writing-none, writing-same, writing-more, writing-long}
 use Rattle.coherent_hold.proofs.gate.write_released.Statement.{statement}
 use Rattle.coherent_hold.proofs.gate.write_released.Tie as tie

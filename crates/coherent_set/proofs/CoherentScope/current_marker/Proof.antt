@@ -6,7 +6,7 @@ use mir.Syntax.{w64}
 use mir.Val.{SFits, ofZ, toZ}
 use mir.Facts.{toZ-ofZ}
 use Rattle.coherent_set.specs.Scope.{markerOf, markerAs, least}
-use Rattle.coherent_set.proofs.Whole.{other-eqZ}
+use Rattle.laws.proofs.Whole.{other-eqZ}
 use Rattle.coherent_set.proofs.CoherentScope.current_marker.Statement.{statement}
 use Rattle.coherent_set.proofs.CoherentScope.current_marker.Tie as tie
 

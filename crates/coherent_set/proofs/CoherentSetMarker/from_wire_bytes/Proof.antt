@@ -7,7 +7,7 @@ use borrow.Author.Tests.{eq-eqb, ne-eqb}
 use mir.Syntax.{w64}
 use mir.Val.{SFits, toZ}
 use mir.Facts.{toZ-ofZ}
-use Rattle.coherent_set.specs.Answer.{answered}
+use Rattle.laws.specs.Answer.{answered}
 use Rattle.coherent_set.specs.Marker.{unwire, decode, decodedAs}
 use Rattle.coherent_set.proofs.Marker.{unwire-bits}
 use borrow.Author.Needs.{needs}

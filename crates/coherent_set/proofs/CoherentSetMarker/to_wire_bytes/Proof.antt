@@ -3,7 +3,7 @@ use mathlib.Core.Path.{ap, sym, _∙_}
 use mir.Syntax.{w64}
 use mir.Val.{SFits, ofZ}
 use mir.Facts.{toZ-ofZ}
-use Rattle.coherent_set.specs.Marker.{bytesOf}
+use Rattle.laws.specs.Bytes.{bytesOf}
 use Rattle.coherent_set.proofs.Marker.{wire-bits}
 use borrow.Author.Needs.{needs}
 use Rattle.coherent_set.proofs.CoherentSetMarker.to_wire_bytes.Statement.{statement}

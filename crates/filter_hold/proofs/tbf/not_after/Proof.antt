@@ -5,9 +5,9 @@ use borrow.Author.Needs.{needs}
 use lib.Signed.{ltZ}
 use mir.Syntax.{w32}
 use mir.Val.{toZ, ofZ}
-use Rattle.coherent_set.specs.Answer.{eqZ}
-use Rattle.coherent_set.proofs.Whole.{other-eqZ}
-use Rattle.group_order.proofs.Minima.{eqZ-refl}
+use Rattle.laws.specs.Whole.{eqZ}
+use Rattle.laws.proofs.Whole.{other-eqZ}
+use Rattle.rules.proofs.Minima.{eqZ-refl}
 use Rattle.filter_hold.specs.Tbf.{notAfter}
 use Rattle.filter_hold.proofs.tbf.not_after.Statement.{statement}
 use Rattle.filter_hold.proofs.tbf.not_after.Tie as tie

@@ -3,7 +3,7 @@ use Prim.Native.Nat.{_+_, _*_}
 use mathlib.Core.Path.{sym, ap}
 use borrow.Author.Needs.{needs}
 use Rattle.group_view.specs.View.{digestRowAt}
-use Rattle.group_view.specs.Keys.{keyAs}
+use Rattle.guids.specs.Keys.{keyAs}
 use Rattle.group_view.proofs.Views.{digest-words}
 use Rattle.group_view.proofs.view.group_at.Statement.{statement}
 use Rattle.group_view.proofs.view.group_at.Tie as tie

@@ -5,12 +5,12 @@ use native.Mathlib.Omega.{arith}
 use lib.ListN.{drop}
 use borrow.Author.Needs.{needs}
 use borrow.Author.Tests.{eq-eqb, ne-eqb}
-use Rattle.group_view.specs.Keys.{keyAs}
-use Rattle.group_order.specs.Commit.{accepted}
+use Rattle.guids.specs.Keys.{keyAs}
+use Rattle.rules.specs.Commit.{accepted}
 use Rattle.group_view.specs.View.{digestsOf}
-use Rattle.group_order.specs.Lists.{any}
+use Rattle.laws.specs.Lists.{any}
 use Rattle.group_view.proofs.Views.{length-digests, digests-from, agreeing, zero-tail, accepted-row}
-use Rattle.group_view.proofs.Loops.{searched, any-hit, any-miss}
+use Rattle.laws.proofs.Loops.{searched, any-hit, any-miss}
 use Rattle.group_view.proofs.view.is_accepted.Statement.{statement}
 use Rattle.group_view.proofs.view.is_accepted.Tie as tie
 

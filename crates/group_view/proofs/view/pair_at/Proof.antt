@@ -2,7 +2,7 @@
 use Prim.Native.Nat.{_+_, _*_, min}
 use mathlib.Core.Path.{sym, ap}
 use borrow.Author.Needs.{needs}
-use Rattle.group_view.specs.Keys.{keyAs}
+use Rattle.guids.specs.Keys.{keyAs}
 use Rattle.group_view.proofs.Views.{pair-words, pair-where}
 use Rattle.group_view.proofs.view.pair_at.Statement.{statement}
 use Rattle.group_view.proofs.view.pair_at.Tie as tie

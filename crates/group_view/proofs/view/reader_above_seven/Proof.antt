@@ -6,9 +6,9 @@ use lib.ListN.{drop}
 use borrow.Author.Needs.{needs}
 use borrow.Author.Tests.{lt-ltb, le-ltb}
 use Rattle.group_view.specs.View.{pairsOf, pairFor}
-use Rattle.group_order.specs.Lists.{any}
+use Rattle.laws.specs.Lists.{any}
 use Rattle.group_view.proofs.Views.{aboveSeven, pairs-read}
-use Rattle.group_view.proofs.Loops.{searched, any-hit, any-miss}
+use Rattle.laws.proofs.Loops.{searched, any-hit, any-miss}
 use Rattle.group_view.proofs.view.reader_above_seven.Statement.{statement}
 use Rattle.group_view.proofs.view.reader_above_seven.Tie as tie
 

@@ -4,11 +4,11 @@ use mathlib.Core.Path.{_≡_, refl, sym, _∙_}
 use native.Mathlib.Omega.{arith}
 use lib.ListN.{drop}
 use borrow.Author.Needs.{needs}
-use Rattle.group_view.specs.Keys.{keyAs}
+use Rattle.guids.specs.Keys.{keyAs}
 use Rattle.group_view.specs.View.{digestsOf}
-use Rattle.group_order.specs.Lists.{any}
+use Rattle.laws.specs.Lists.{any}
 use Rattle.group_view.proofs.Views.{length-digests, digests-from, differing}
-use Rattle.group_view.proofs.Loops.{searched, any-hit, any-miss}
+use Rattle.laws.proofs.Loops.{searched, any-hit, any-miss}
 use Rattle.group_view.proofs.view.unlike.Statement.{statement}
 use Rattle.group_view.proofs.view.unlike.Tie as tie
 

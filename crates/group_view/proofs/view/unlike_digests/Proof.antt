@@ -5,9 +5,9 @@ use native.Mathlib.Omega.{arith}
 use lib.ListN.{drop}
 use borrow.Author.Needs.{needs}
 use Rattle.group_view.specs.View.{digestsOf}
-use Rattle.group_order.specs.Lists.{any}
+use Rattle.laws.specs.Lists.{any}
 use Rattle.group_view.proofs.Views.{length-digests, digests-from, unlikeIn}
-use Rattle.group_view.proofs.Loops.{searched, any-hit, any-miss}
+use Rattle.laws.proofs.Loops.{searched, any-hit, any-miss}
 use Rattle.group_view.proofs.view.unlike_digests.Statement.{statement}
 use Rattle.group_view.proofs.view.unlike_digests.Tie as tie
 

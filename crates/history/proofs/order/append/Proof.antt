@@ -1,4 +1,7 @@
 -- `append` makes room, writes the entry's row behind the rows in use and counts it.
+use mathlib.Core.Path.{_∙_}
+use native.Mathlib.Omega.{arith}
+use Rattle.store.proofs.Past.{pushed-behind, coded-row}
 use Rattle.history.proofs.Appending.{appended}
 use borrow.Author.Needs.{needs}
 use Rattle.history.proofs.order.append.Statement.{statement}
@@ -20,7 +23,12 @@ put-word-requires : tie.Need-put-word-requires
 put-word-requires c κs = search needs
 
 returns : tie.Need-returns
-returns c = rw (c .put-word .ensures .0) (appended _ _ _ _ _ _ _ (c .before .before .before .before .before .make-room .ensures) (c .before .before .before .before .encode .ensures) (c .before .before .push-row .ensures))
+returns c =
+    let p = c .before .before in
+    let e = p .before .before in
+    let r = e .before in
+    let s = r .before .before in
+    rw (c .put-word .ensures .0) (appended _ _ _ _ _ _ _ (r .make-room .ensures) (e .encode .ensures ∙ coded-row _ _ (s .pre .2) (s .pre .3)) (pushed-behind _ _ _ _ (omega (arith, r .make-room .ensures .room)) (p .push-row .ensures)))
 
 pub append-spec : {M : Type 1} → statement M
 append-spec =

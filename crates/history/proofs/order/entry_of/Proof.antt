@@ -3,11 +3,11 @@ use mathlib.Core.Path.{_≡_, _∙_, ap}
 use mir.Syntax.{w64}
 use mir.Val.{SFits}
 use mir.ValLaws.{toZ-ofZ}
-use Rattle.history.specs.Records.{entryAs, momentAs}
+use Rattle.store.specs.Records.{entryAs, momentAs}
 use Rattle.history.specs.Calls.{offerAs}
-use Rattle.group_order.specs.Offer.{entryOf}
-use Rattle.group_order.specs.Marks.{number}
-use Rattle.group_order.proofs.Whole.{size-number}
+use Rattle.rules.specs.Offer.{entryOf}
+use Rattle.rules.specs.Marks.{number}
+use Rattle.rules.proofs.Whole.{size-number}
 use borrow.Author.Needs.{needs}
 use Rattle.history.proofs.order.entry_of.Statement.{statement}
 use Rattle.history.proofs.order.entry_of.Tie as tie

@@ -4,9 +4,9 @@ use mathlib.Core.Path.{sym}
 use mathlib.Core.Bool.{true}
 use native.Mathlib.Omega.{arith}
 use borrow.Author.Tests.{lt-leb}
-use Rattle.group_order.specs.State.{stored}
-use Rattle.history.specs.Store.{stateOf}
-use Rattle.history.proofs.Asked.{stored-le, counted-le, asked-count, count-always}
+use Rattle.rules.specs.State.{stored}
+use Rattle.store.specs.Store.{stateOf}
+use Rattle.store.proofs.Asked.{stored-le, counted-le, asked-count, count-always}
 use borrow.Author.Needs.{needs}
 use Rattle.history.proofs.order.is_full.Statement.{statement}
 use Rattle.history.proofs.order.is_full.Tie as tie

@@ -3,10 +3,10 @@ use mathlib.Core.Path.{ap}
 use native.Mathlib.Omega.{arith}
 use mir.Syntax.{w64}
 use mir.ValLaws.{toZ-ofZ}
-use Rattle.group_order.specs.Lists.{isSome}
-use Rattle.group_order.specs.Offer.{replaced}
-use Rattle.history.specs.Records.{optionalAs, entryAs, Asks}
-use Rattle.group_order.proofs.Lists.{not-both}
+use Rattle.laws.specs.Lists.{isSome}
+use Rattle.rules.specs.Offer.{replaced}
+use Rattle.store.specs.Records.{optionalAs, entryAs, Asks}
+use Rattle.laws.proofs.Lists.{not-both}
 use Rattle.history.proofs.Appending.{asks-end, join-room, kept-as, joined-as}
 use borrow.Author.Needs.{needs}
 use Rattle.history.proofs.order.join_end.Statement.{statement}

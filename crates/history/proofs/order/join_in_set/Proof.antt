@@ -2,13 +2,14 @@
 use mathlib.Core.Path.{_≡_, sym, _∙_}
 use mir.Syntax.{w64}
 use mir.ValLaws.{toZ-ofZ}
-use Rattle.group_order.specs.Lists.{any}
-use Rattle.group_order.specs.Entry.{inSet, isEndOf}
-use Rattle.history.specs.Store.{stateOf}
-use Rattle.group_view.specs.Keys.{keyAs}
-use Rattle.history.specs.Records.{pairIn}
+use Rattle.laws.specs.Lists.{any}
+use Rattle.rules.specs.Entry.{inSet, isEndOf}
+use Rattle.store.specs.Store.{stateOf}
+use Rattle.guids.specs.Keys.{keyAs}
+use Rattle.store.specs.Records.{pairIn}
 use Rattle.history.specs.Calls.{JoinsSet}
-use Rattle.history.proofs.Appending.{asks-held, end-in-set}
+use Rattle.store.proofs.Stages.{asks-held}
+use Rattle.history.proofs.Appending.{end-in-set}
 use borrow.Author.Needs.{needs}
 use Rattle.history.proofs.order.join_in_set.Statement.{statement}
 use Rattle.history.proofs.order.join_in_set.Tie as tie

@@ -3,11 +3,11 @@ use mathlib.Core.Path.{ap}
 use mathlib.Core.Bool.{not}
 use mir.Syntax.{w64}
 use mir.ValLaws.{toZ-ofZ}
-use Rattle.group_order.specs.Entry.{isSampleW}
-use Rattle.group_order.specs.Offer.{entryOf}
-use Rattle.history.specs.Records.{whatAs, optionalAs}
+use Rattle.rules.specs.Entry.{isSampleW}
+use Rattle.rules.specs.Offer.{entryOf}
+use Rattle.store.specs.Records.{whatAs, optionalAs}
 use Rattle.history.specs.Calls.{offerAs, Joins}
-use Rattle.group_order.proofs.Lists.{and-never}
+use Rattle.laws.proofs.Lists.{and-never}
 use Rattle.history.proofs.Accepting.{none-shares}
 use Rattle.history.proofs.Appending.{joins-end}
 use borrow.Author.Needs.{needs}

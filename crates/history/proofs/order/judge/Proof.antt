@@ -5,10 +5,10 @@ use mathlib.Core.Bool.{false, _&&_, not}
 use lib.Dec.{ltb, leb}
 use borrow.Author.Needs.{needs}
 use borrow.Author.Tests.{lt-ltb, le-ltb}
-use Rattle.group_order.specs.State.{State, committedOf, stored}
-use Rattle.group_order.specs.Marks.{number}
-use Rattle.group_order.specs.Offer.{Offer, isStored, isJoined, isLate, ninth, pair33, adds, fateOf}
-use Rattle.history.specs.Store.{stateOf}
+use Rattle.rules.specs.State.{State, committedOf, stored}
+use Rattle.rules.specs.Marks.{number}
+use Rattle.rules.specs.Offer.{Offer, isStored, isJoined, isLate, ninth, pair33, adds, fateOf}
+use Rattle.store.specs.Store.{stateOf}
 use Rattle.history.specs.Calls.{offerAs, offeredAs, Joins}
 use Rattle.history.specs.declared.order.Joining.{Joining}
 use Rattle.history.proofs.Accepting.{Admitted, refused-reader, refused-ninth, refused-pair, refused-full, accepted, fate-above, fate-joins, fate-late, counted}

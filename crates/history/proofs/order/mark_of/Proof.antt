@@ -1,6 +1,6 @@
 -- `mark_of` reads the mark of the first row that fits.
 use mathlib.Core.Path.{sym, ap, _∙_}
-use Rattle.history.specs.Records.{entryAs, momentAs}
+use Rattle.store.specs.Records.{entryAs, momentAs}
 use Rattle.history.proofs.Appending.{mark-there, mark-nowhere}
 use borrow.Author.Needs.{needs}
 use Rattle.history.proofs.order.mark_of.Statement.{statement}

@@ -1,8 +1,8 @@
 -- `history::order::ninth_group` meets its contract: the place found is the count where the group is not known.
-use Rattle.group_order.specs.State.{knowsGroup}
-use Rattle.group_order.specs.Offer.{ninth}
-use Rattle.history.specs.Store.{stateOf}
-use Rattle.history.proofs.Known.{full-none, full-some}
+use Rattle.rules.specs.State.{knowsGroup}
+use Rattle.rules.specs.Offer.{ninth}
+use Rattle.store.specs.Store.{stateOf}
+use Rattle.laws.proofs.Index.{full-none, full-some}
 use borrow.Author.Needs.{needs}
 use Rattle.history.proofs.order.ninth_group.Statement.{statement}
 use Rattle.history.proofs.order.ninth_group.Tie as tie

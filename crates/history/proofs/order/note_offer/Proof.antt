@@ -1,5 +1,7 @@
 -- `note_offer` hears the group and the writer, and tells the writer of the number and the digest.
-use Rattle.history.specs.Store.{stateOf}
+use mathlib.Core.Path.{_∙_}
+use Rattle.store.specs.Store.{stateOf}
+use Rattle.store.proofs.Past.{heard-group, heard-writer}
 use Rattle.history.proofs.Accepting.{pair-kept, then-heard, then-told}
 use borrow.Author.Needs.{needs}
 use Rattle.history.proofs.order.note_offer.Statement.{statement}
@@ -9,8 +11,7 @@ hear-group-requires : tie.Need-hear-group-requires
 hear-group-requires c κs = search needs
 
 hear-writer-requires : tie.Need-hear-writer-requires
-unfolding stateOf
-hear-writer-requires c κs = pair-kept _ _ _ _ _ (c .before .hear-group .ensures .0) (c .before .before .before .pre .1)
+hear-writer-requires c κs = search needs
 
 note-seen-requires : tie.Need-note-seen-requires
 note-seen-requires c κs = search needs
@@ -18,8 +19,13 @@ note-seen-requires c κs = search needs
 returns : tie.Need-returns
 unfolding stateOf
 returns c =
-    let heard = then-heard _ _ _ _ _ _ _ (c .before .before .before .before .hear-group .ensures .0) (c .before .before .hear-writer .ensures .0) in
-    record { state = then-told _ _ _ _ _ _ _ _ _ heard (c .before .before .hear-writer .ensures .1 .1 .0) (c .before .before .hear-writer .ensures .1 .1 .1) (c .note-seen .ensures); long = c .note-seen .ensures .long }
+    let w = c .before .before in
+    let g = w .before .before in
+    let s = g .before .before in
+    let group = g .hear-group .ensures .0 ∙ heard-group _ _ (s .pre .0) in
+    let writer = w .hear-writer .ensures .0 ∙ heard-writer _ _ _ (pair-kept _ _ _ _ _ group (s .pre .1)) in
+    let heard = then-heard _ _ _ _ _ _ _ group writer in
+    record { state = then-told _ _ _ _ _ _ _ _ _ heard (w .hear-writer .ensures .1 .1) (c .note-seen .ensures); long = c .note-seen .ensures .long }
 
 pub note-offer-spec : {M : Type 1} → statement M
 note-offer-spec =

@@ -1,8 +1,8 @@
 -- `history::order::pair_over_32` meets its contract: the place found is the count where the pair is not known.
-use Rattle.group_order.specs.State.{knowsWriter}
-use Rattle.group_order.specs.Offer.{pair33}
-use Rattle.history.specs.Store.{stateOf}
-use Rattle.history.proofs.Known.{full-none, full-some}
+use Rattle.rules.specs.State.{knowsWriter}
+use Rattle.rules.specs.Offer.{pair33}
+use Rattle.store.specs.Store.{stateOf}
+use Rattle.laws.proofs.Index.{full-none, full-some}
 use borrow.Author.Needs.{needs}
 use Rattle.history.proofs.order.pair_over_32.Statement.{statement}
 use Rattle.history.proofs.order.pair_over_32.Tie as tie

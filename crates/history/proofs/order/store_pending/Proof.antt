@@ -1,8 +1,7 @@
 -- `store_pending` appends the entry in stage 0.
 use native.Mathlib.Omega.{arith}
-use Rattle.group_order.specs.State.{stored}
-use Rattle.history.specs.Store.{stateOf, rowsOf}
-use Rattle.history.specs.Calls.{live}
+use Rattle.rules.specs.State.{stored}
+use Rattle.store.specs.Store.{stateOf, rowsOf, live}
 use Rattle.history.proofs.Appending.{stored-as}
 use borrow.Author.Needs.{needs}
 use Rattle.history.proofs.order.store_pending.Statement.{statement}

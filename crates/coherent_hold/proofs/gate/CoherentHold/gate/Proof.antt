@@ -8,8 +8,9 @@ use mir.Val.{ofZ, toZ}
 use mir.Syntax.{w64}
 use borrow.Author.Tests.{not-true, not-false}
 use borrow.Author.Needs.{needs}
-use Rattle.history.specs.Records.{optionalAs}
-use Rattle.coherent_hold.specs.Gate.{gateCall, itemAs, holdAs, answerAs, callAs, Kept}
+use Rattle.laws.specs.Answer.{Kept}
+use Rattle.store.specs.Records.{optionalAs}
+use Rattle.coherent_hold.specs.Gate.{gateCall, itemAs, holdAs, answerAs, callAs}
 use Rattle.coherent_hold.proofs.GateCalls.{kept-left, gate-short, gate-off, gate-member, gate-all}
 use Rattle.coherent_hold.proofs.gate.CoherentHold.gate.Statement.{statement}
 use Rattle.coherent_hold.proofs.gate.CoherentHold.gate.Tie as tie

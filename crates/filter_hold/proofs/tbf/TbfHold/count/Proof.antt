@@ -5,7 +5,7 @@ use lib.ListN.{length, take}
 use lib.Seq.{length-take-le, take-all}
 use borrow.Author.Needs.{needs}
 use Rattle.filter_hold.specs.Tbf.{holdAs}
-use Rattle.filter_hold.proofs.Arrays.{arr-len}
+use Rattle.laws.proofs.Arrays.{arr-len}
 use Rattle.filter_hold.proofs.tbf.TbfHold.count.Statement.{statement}
 use Rattle.filter_hold.proofs.tbf.TbfHold.count.Tie as tie
 

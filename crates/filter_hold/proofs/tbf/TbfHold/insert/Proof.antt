@@ -5,7 +5,7 @@ use mathlib.Core.List.{_∷_, _++_}
 use native.Mathlib.Omega.{arith}
 use borrow.Author.Needs.{needs}
 use lib.ListN.{take, drop, set}
-use Rattle.history.proofs.Places.{Shifted, shifted-none, index-le}
+use Rattle.laws.proofs.Places.{Shifted, shifted-none, index-le}
 use Rattle.filter_hold.specs.Tbf.{holdAs, insert, follows}
 use Rattle.filter_hold.proofs.TbfLaws.{shifted-turn, shifted-end}
 use Rattle.filter_hold.proofs.tbf.TbfHold.insert.Statement.{statement}

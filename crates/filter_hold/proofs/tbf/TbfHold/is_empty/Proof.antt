@@ -4,7 +4,7 @@ use native.Mathlib.Omega.{arith}
 use lib.ListN.{length}
 use borrow.Author.Needs.{needs}
 use Rattle.filter_hold.specs.Tbf.{holdAs}
-use Rattle.filter_hold.proofs.Arrays.{arr-len}
+use Rattle.laws.proofs.Arrays.{arr-len}
 use Rattle.filter_hold.proofs.TbfLaws.{take-none}
 use Rattle.filter_hold.proofs.tbf.TbfHold.is_empty.Statement.{statement}
 use Rattle.filter_hold.proofs.tbf.TbfHold.is_empty.Tie as tie

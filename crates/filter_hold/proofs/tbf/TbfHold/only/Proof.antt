@@ -3,9 +3,9 @@ use mathlib.Core.Path.{sym, ap, _∙_}
 use native.Mathlib.Omega.{arith}
 use Prim.Native.Nat.{_-_}
 use borrow.Author.Needs.{needs}
-use Rattle.group_order.specs.Lists.{keep}
+use Rattle.laws.specs.Lists.{keep}
 use Rattle.filter_hold.specs.Tbf.{holdAs, askedFor}
-use Rattle.filter_hold.proofs.Packing.{Packed, packed-start, packed-end, packed-moves, packed-stays}
+use Rattle.laws.proofs.Packing.{Packed, packed-start, packed-end, packed-moves, packed-stays}
 use Rattle.filter_hold.proofs.tbf.TbfHold.only.Statement.{statement}
 use Rattle.filter_hold.proofs.tbf.TbfHold.only.Tie as tie
 

@@ -6,8 +6,8 @@ use mathlib.Core.Path.{_≡_, sym, ap, _∙_}
 use native.Mathlib.Omega.{arith}
 use Prim.Native.Nat.{_-_, _≤_}
 use borrow.Author.Needs.{needs}
-use Rattle.history.proofs.Places.{Missed, missed-none, missed-more, missed-hit, missed-all}
-use Rattle.group_order.specs.Lists.{indexOf}
+use Rattle.laws.proofs.Places.{Missed, missed-none, missed-more, missed-hit, missed-all}
+use Rattle.laws.specs.Lists.{indexOf}
 use Rattle.filter_hold.specs.Tbf.{follows}
 use Rattle.filter_hold.proofs.TbfLaws.{free}
 use Rattle.filter_hold.proofs.tbf.TbfHold.place.Statement.{statement}

@@ -1,26 +1,13 @@
--- `history::order::GroupOrder::counts` meets its contract: the counts are words 4 to 7.
-use Rattle.history.specs.Store.{stateOf, countsOf}
-use Rattle.history.specs.Calls.{countsAs}
+-- `history::order::GroupOrder::counts` meets its contract.
 use borrow.Author.Needs.{needs}
 use Rattle.history.proofs.order.GroupOrder.counts.Statement.{statement}
 use Rattle.history.proofs.order.GroupOrder.counts.Tie as tie
 
-word-requires : tie.Need-word-requires
-word-requires c κs = search needs
-
-word-requires-2 : tie.Need-word-requires-2
-word-requires-2 c κs = search needs
-
-word-requires-3 : tie.Need-word-requires-3
-word-requires-3 c κs = search needs
-
-word-requires-4 : tie.Need-word-requires-4
-word-requires-4 c κs = search needs
+reading-counts-requires : tie.Need-reading-counts-requires
+reading-counts-requires c κs = search needs
 
 returns : tie.Need-returns
-unfolding countsAs stateOf countsOf
-returns c = rw (c .before .before .before .word .ensures, c .before .before .word2 .ensures, c .before .word3 .ensures, c .word4 .ensures)
+returns c = c .reading-counts .ensures
 
 pub counts-spec : {M : Type 1} → statement M
-counts-spec =
-    tie.close (tie.spec word-requires word-requires-2 word-requires-3 word-requires-4 returns)
+counts-spec = tie.close (tie.spec reading-counts-requires returns)

@@ -3,12 +3,14 @@ use Prim.{Unit, tt}
 use Prim.Native.Nat.{ℕ}
 use mathlib.Core.Path.{_≡_, refl, sym, ap, ap₂, _∙_}
 use borrow.Author.Tests.{lt-ltb, le-ltb}
-use Rattle.coherent_set.specs.Answer.{Answer, answered}
-use Rattle.group_order.specs.State.{State}
-use Rattle.group_order.specs.Offer.{refusal, ninth, pair33, gap}
-use Rattle.history.specs.Store.{stateOf}
-use Rattle.history.specs.Calls.{gapAs, toldAs, Kept}
+use Rattle.laws.specs.Answer.{Answer, answered}
+use Rattle.rules.specs.State.{State}
+use Rattle.rules.specs.Offer.{refusal, ninth, pair33, gap}
+use Rattle.store.specs.Store.{stateOf}
+use Rattle.history.specs.Calls.{gapAs, toldAs}
+use Rattle.release.specs.Released.{Kept}
 use Rattle.history.proofs.Accepting.{pair-kept, then-heard, then-told, counted}
+use Rattle.store.proofs.Past.{heard-group, heard-writer}
 use borrow.Author.Needs.{needs}
 use Rattle.history.proofs.order.GroupOrder.gap.Statement.{statement}
 use Rattle.history.proofs.order.GroupOrder.gap.Tie as tie
@@ -47,11 +49,10 @@ unfolding gap gapAs toldAs Kept refusal
 returns-3 c = (rw (le-ltb _ _ (c .before .before .before .before .before .before .if1 .left), sym (ninth-is (c .before .before .before .before)) ∙ c .before .before .before .if2 .left, sym (pair-is (c .before)) ∙ c .if3 .taken), refl)
 
 hear-group-requires : tie.Need-hear-group-requires
-hear-group-requires c κs = sym (c .before .before .before .before .before .ninth-group .ensures) ∙ c .before .before .before .before .if2 .left
+hear-group-requires c κs = search needs
 
 hear-writer-requires : tie.Need-hear-writer-requires
-unfolding stateOf
-hear-writer-requires c κs = pair-kept _ _ _ _ _ (c .before .hear-group .ensures .0) (sym (c .before .before .before .before .pair-over-32 .ensures) ∙ c .before .before .before .if3 .left)
+hear-writer-requires c κs = search needs
 
 cast-note-gap : tie.Need-cast-note-gap
 cast-note-gap c = search needs
@@ -68,8 +69,10 @@ returns-4 c =
     let w = c .before .before .before .before .before in
     let g = w .before .before in
     let k = g .before .before .before .before .before .before .before .before .before .before in
-    let heard = then-heard _ _ _ _ _ _ _ (g .hear-group .ensures .0) (w .hear-writer .ensures .0) in
-    let told = then-told _ _ _ _ _ _ _ _ _ heard (w .hear-writer .ensures .1 .1 .0) (w .hear-writer .ensures .1 .1 .1) (c .note-gap .ensures) in
+    let group = g .hear-group .ensures .0 ∙ heard-group _ _ (sym (g .before .before .before .before .before .before .ninth-group .ensures) ∙ g .before .before .before .before .before .if2 .left) in
+    let writer = w .hear-writer .ensures .0 ∙ heard-writer _ _ _ (pair-kept _ _ _ _ _ group (sym (g .before .before .before .pair-over-32 .ensures) ∙ g .before .before .if3 .left)) in
+    let heard = then-heard _ _ _ _ _ _ _ group writer in
+    let told = then-told _ _ _ _ _ _ _ _ _ heard (w .hear-writer .ensures .1 .1) (c .note-gap .ensures) in
     let n = counted (k .before .before .before .before .args .x .number) (c .before .clamp .result) (c .before .before .struct-told .given .1 .1 .1 .0 .1) (c .before .clamp .ensures) in (
       rw (le-ltb _ _ (g .before .before .before .before .before .before .before .before .if1 .left), sym (ninth-is (g .before .before .before .before .before .before)) ∙ g .before .before .before .before .before .if2 .left, sym (pair-is (g .before .before .before)) ∙ g .before .before .if3 .left)
           (ap {B = Answer (Unit {0}) × State ℕ} (λ t. (answered tt, t)) (rw (k .before .pack .ensures, k .pack2 .ensures, n) at told)),

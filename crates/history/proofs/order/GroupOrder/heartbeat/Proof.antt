@@ -2,12 +2,14 @@
 use Prim.{Unit, tt}
 use Prim.Native.Nat.{ℕ}
 use mathlib.Core.Path.{_≡_, refl, sym, ap, ap₂, _∙_}
-use Rattle.coherent_set.specs.Answer.{Answer, answered}
-use Rattle.group_order.specs.State.{State}
-use Rattle.group_order.specs.Offer.{refusal, ninth, pair33, heartbeat}
-use Rattle.history.specs.Store.{stateOf}
-use Rattle.history.specs.Calls.{heartbeatAs, toldAs, Kept}
+use Rattle.laws.specs.Answer.{Answer, answered}
+use Rattle.rules.specs.State.{State}
+use Rattle.rules.specs.Offer.{refusal, ninth, pair33, heartbeat}
+use Rattle.store.specs.Store.{stateOf}
+use Rattle.history.specs.Calls.{heartbeatAs, toldAs}
+use Rattle.release.specs.Released.{Kept}
 use Rattle.history.proofs.Accepting.{pair-kept, then-announced, then-heard, then-told, counted, digest-back}
+use Rattle.store.proofs.Past.{heard-group, heard-writer}
 use borrow.Author.Needs.{needs}
 use Rattle.history.proofs.order.GroupOrder.heartbeat.Statement.{statement}
 use Rattle.history.proofs.order.GroupOrder.heartbeat.Tie as tie
@@ -42,7 +44,7 @@ unfolding heartbeat heartbeatAs toldAs Kept refusal
 returns-2 c = (rw (sym (ninth-is (c .before .before .before .before)) ∙ c .before .before .before .if1 .left, sym (pair-is (c .before)) ∙ c .if2 .taken), refl)
 
 hear-group-requires : tie.Need-hear-group-requires
-hear-group-requires c κs = sym (c .before .before .before .before .before .ninth-group .ensures) ∙ c .before .before .before .before .if1 .left
+hear-group-requires c κs = search needs
 
 clamp-requires : tie.Need-clamp-requires
 clamp-requires c κs = search needs
@@ -51,8 +53,7 @@ announce-requires : tie.Need-announce-requires
 announce-requires c κs = search needs
 
 hear-writer-requires : tie.Need-hear-writer-requires
-unfolding stateOf
-hear-writer-requires c κs = pair-kept _ _ _ _ _ (then-announced _ _ _ _ _ _ _ (c .before .before .before .before .before .hear-group .ensures .0) (c .before .announce .ensures .0)) (sym (c .before .before .before .before .before .before .before .before .pair-over-32 .ensures) ∙ c .before .before .before .before .before .before .before .if2 .left)
+hear-writer-requires c κs = search needs
 
 clamp-requires-2 : tie.Need-clamp-requires-2
 clamp-requires-2 c κs = search needs
@@ -79,8 +80,11 @@ returns-3 c =
     let g = w .before .before .before .before .before .before in
     let k = g .before .before .before .before .before .before .before .before in
     let h = k .before .before .before .before .args .h in
-    let heard = then-heard _ _ _ _ _ _ _ (then-announced _ _ _ _ _ _ _ (g .hear-group .ensures .0) (w .before .before .announce .ensures .0)) (w .hear-writer .ensures .0) in
-    let told = then-told _ _ _ _ _ _ _ _ _ heard (w .hear-writer .ensures .1 .1 .0) (w .hear-writer .ensures .1 .1 .1) (c .note-heartbeat .ensures) in
+    let group = g .hear-group .ensures .0 ∙ heard-group _ _ (sym (g .before .before .before .before .before .before .ninth-group .ensures) ∙ g .before .before .before .before .before .if1 .left) in
+    let announced = then-announced _ _ _ _ _ _ _ group (w .before .before .announce .ensures .0) in
+    let writer = w .hear-writer .ensures .0 ∙ heard-writer _ _ _ (pair-kept _ _ _ _ _ announced (sym (g .before .before .before .pair-over-32 .ensures) ∙ g .before .before .if2 .left)) in
+    let heard = then-heard _ _ _ _ _ _ _ announced writer in
+    let told = then-told _ _ _ _ _ _ _ _ _ heard (w .hear-writer .ensures .1 .1) (c .note-heartbeat .ensures) in
     let f = w .before .before .before .before .struct-told .given .1 .1 in
     let current = counted (h .current) (w .before .before .before .clamp .result) (f .1 .1 .0 .1) (w .before .before .before .clamp .ensures) in
     let first = counted (h .first) (c .before .before .before .before .before .before .before .clamp2 .result) (f .0 .1) (c .before .before .before .before .before .before .before .clamp2 .ensures) in

@@ -1,54 +1,13 @@
--- `history::order::GroupOrder::is_empty` meets its contract: no row is pending and no sample held.
-use mathlib.Core.Bool.{true}
-use Rattle.group_order.specs.Entry.{isSample}
-use Rattle.group_order.specs.Run.{nothingWaits}
-use Rattle.history.specs.Store.{stateOf}
-use Rattle.history.proofs.Asked.{empty-any, asked-any}
+-- `history::order::GroupOrder::is_empty` meets its contract.
 use borrow.Author.Needs.{needs}
 use Rattle.history.proofs.order.GroupOrder.is_empty.Statement.{statement}
 use Rattle.history.proofs.order.GroupOrder.is_empty.Tie as tie
 
-entry-count-requires : tie.Need-entry-count-requires
-entry-count-requires c κs = search needs
-
-every-requires : tie.Need-every-requires
-every-requires c κs = search needs
-
-any-row-requires : tie.Need-any-row-requires
-any-row-requires c κs = search needs
+reading-is-empty-requires : tie.Need-reading-is-empty-requires
+reading-is-empty-requires c κs = search needs
 
 returns : tie.Need-returns
-unfolding nothingWaits stateOf
-returns c =
-    let s = c .before in
-    let l = s .before .before .before .args .store .now in
-    let pending = asked-any 0 (λ e. true) l (s .before .before .entry-count .ensures) (s .before .every .result) (s .before .every .ensures) (s .any-row .ensures) in
-    rw (empty-any, ← pending, c .if1 .taken)
-
-samples-requires : tie.Need-samples-requires
-samples-requires c κs = search needs
-
-any-row-requires-2 : tie.Need-any-row-requires-2
-any-row-requires-2 c κs = search needs
-
-returns-2 : tie.Need-returns-2
-unfolding nothingWaits stateOf
-returns-2 c =
-    let s = c .before .before .before in
-    let n = s .before .before .entry-count in
-    let l = s .before .before .before .args .store .now in
-    let pending = asked-any 0 (λ e. true) l (n .ensures) (s .before .every .result) (s .before .every .ensures) (s .any-row .ensures) in
-    let held = asked-any 1 (λ e. isSample e) l (n .ensures) (c .before .samples .result) (c .before .samples .ensures) (c .any-row2 .ensures) in
-    rw (empty-any, ← pending, ← held, c .before .before .if1 .left)
+returns c = c .reading-is-empty .ensures
 
 pub is-empty-spec : {M : Type 1} → statement M
-is-empty-spec =
-    tie.close
-    (tie.spec
-    entry-count-requires
-    every-requires
-    any-row-requires
-    returns
-    samples-requires
-    any-row-requires-2
-    returns-2)
+is-empty-spec = tie.close (tie.spec reading-is-empty-requires returns)

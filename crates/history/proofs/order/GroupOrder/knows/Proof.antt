@@ -1,27 +1,13 @@
--- `history::order::GroupOrder::knows` meets its contract: the place found is below the count where the pair is known.
-use Rattle.group_order.specs.State.{knowsWriter}
-use Rattle.history.proofs.Known.{index-any}
+-- `history::order::GroupOrder::knows` meets its contract.
 use borrow.Author.Needs.{needs}
 use Rattle.history.proofs.order.GroupOrder.knows.Statement.{statement}
 use Rattle.history.proofs.order.GroupOrder.knows.Tie as tie
 
-pack-requires : tie.Need-pack-requires
-pack-requires c κs = search needs
-
-pack-requires-2 : tie.Need-pack-requires-2
-pack-requires-2 c κs = search needs
-
-find-writer-requires : tie.Need-find-writer-requires
-find-writer-requires c κs = search needs
-
-writer-count-requires : tie.Need-writer-count-requires
-writer-count-requires c κs = search needs
+reading-knows-requires : tie.Need-reading-knows-requires
+reading-knows-requires c κs = search needs
 
 returns : tie.Need-returns
-unfolding knowsWriter
-returns c = rw (c .before .find-writer .ensures, c .writer-count .ensures, c .before .before .before .pack .ensures, c .before .before .pack2 .ensures) (index-any _ _)
+returns c = c .reading-knows .ensures
 
 pub knows-spec : {M : Type 1} → statement M
-knows-spec =
-    tie.close
-    (tie.spec pack-requires pack-requires-2 find-writer-requires writer-count-requires returns)
+knows-spec = tie.close (tie.spec reading-knows-requires returns)

@@ -6,15 +6,16 @@ use mathlib.Core.Bool.{false}
 use mathlib.Core.List.{List}
 use native.Mathlib.Omega.{arith}
 use borrow.Author.Tests.{ltb-false}
-use Rattle.coherent_set.specs.Answer.{Answer, refused, answered}
-use Rattle.group_order.specs.Lists.{isSome}
-use Rattle.group_order.specs.State.{State}
-use Rattle.group_order.specs.Marks.{number, saw}
-use Rattle.group_order.specs.Offer.{Offer, Fate, isStored, isJoined, isLate, ninth, pair33, entryOf, place, heardOffer, offer}
-use Rattle.history.specs.Store.{stateOf}
-use Rattle.group_view.specs.Keys.{keyAs}
-use Rattle.history.specs.Records.{entryAs}
-use Rattle.history.specs.Calls.{offerAs, offeredAs, Heard, Kept, withLate}
+use Rattle.laws.specs.Answer.{Answer, refused, answered}
+use Rattle.laws.specs.Lists.{isSome}
+use Rattle.rules.specs.State.{State}
+use Rattle.rules.specs.Marks.{number, saw}
+use Rattle.rules.specs.Offer.{Offer, Fate, isStored, isJoined, isLate, ninth, pair33, entryOf, place, heardOffer, offer}
+use Rattle.store.specs.Store.{stateOf}
+use Rattle.guids.specs.Keys.{keyAs}
+use Rattle.store.specs.Records.{entryAs}
+use Rattle.history.specs.Calls.{offerAs, offeredAs, Heard, withLate}
+use Rattle.release.specs.Released.{Kept}
 use Rattle.history.proofs.Accepting.{Accepted, accepted, answered-so, refused-so, joined-set, room-stored, room-joined}
 use borrow.Author.Needs.{needs}
 use Rattle.history.proofs.order.GroupOrder.offer.Statement.{statement}

@@ -1,0 +1,3 @@
+pub mod Guids
+pub mod Compare
+pub mod Keys

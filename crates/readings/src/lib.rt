@@ -1,0 +1,2 @@
+// What is read of a history without changing it.
+pub mod readings;

@@ -1,0 +1,2 @@
+// Whether a number is ready.
+pub mod ready;

@@ -1,0 +1,11 @@
+pub mod Entry
+pub mod State
+pub mod Marks
+pub mod Offer
+pub mod Sets
+pub mod Commit
+pub mod Release
+pub mod Run
+pub mod Names
+pub mod Claim
+pub mod Answers

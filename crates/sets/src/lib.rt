@@ -1,0 +1,3 @@
+// Rows that leave, and the rules of a set.
+pub mod leaving;
+pub mod sets;

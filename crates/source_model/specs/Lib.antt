@@ -1,0 +1,5 @@
+pub mod Map
+pub mod Source
+pub mod Calls
+pub mod Claim
+pub mod Width

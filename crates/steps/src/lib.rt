@@ -1,0 +1,2 @@
+// The steps of a release.
+pub mod steps;

@@ -1,0 +1,10 @@
+pub mod Tags
+pub mod Queries
+pub mod RowLaws
+pub mod Past
+pub mod Bridge
+pub mod Asked
+pub mod StoreLaws
+pub mod Stages
+pub mod GroupWords
+pub mod WriterWords
