@@ -1,4 +1,5 @@
 pub mod Told
-pub mod Lines
+mod Steps
+mod Chains
 pub mod Longest
 mod Examples

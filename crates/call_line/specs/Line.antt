@@ -1,12 +1,13 @@
 -- A line of the call list and what it spells (document 01, "One call list, whole").
 use Prim.Native.Nat.{ℕ}
-use mathlib.Core.Bool.{cond}
+use mathlib.Core.Bool.{Bool, cond}
 use mathlib.Core.List.{List, [], _∷_, _++_}
 use mathlib.Core.Option.{Option, none, some}
 use lib.Dec.{eqb}
 use lib.IntN.{ℤ}
-use lib.ListN.{length, replicate}
+use lib.ListN.{length, replicate, drop}
 use Rattle.fields.specs.Fields.{fieldsOf, fieldAt, only, byte, word, long, number}
+use Rattle.fields.specs.Cursor.{lineIn, lineEnd}
 use Rattle.guids.specs.Guid.{Guid}
 use Rattle.rules.specs.Entry.{What, sample, setEnd}
 use Rattle.rules.specs.Offer.{Offer, Heartbeat, Gap}
@@ -118,3 +119,9 @@ lineBy c l =
 -- none: `bad`
 unfoldable pub lineOf : List ℕ → Option Line
 lineOf l = lineBy (only (fieldAt 0 l)) l
+
+-- ---- in a text
+
+-- what `read` makes of the line from `at` on, and where that line ends; `nl`: at a newline
+unfoldable pub lineFrom : (List ℕ → Option Line) → Bool → ℕ → List ℕ → Option Line × ℕ
+lineFrom read nl at s = (read (lineIn nl (drop at s)), lineEnd nl at s)

@@ -5,7 +5,7 @@ use Rattle.rules.specs.Offer as O
 use Rattle.rules.specs.Sets.{Pair}
 use Rattle.rules.specs.Commit.{DigestRow}
 use Rattle.store.specs.Records.{optionalAs, whatAs}
-use Rattle.history.specs.Calls.{digestAs}
+use Rattle.offers.specs.Calls.{digestAs}
 use Rattle.call_line.specs.Line.{Line, starts, counts, digests, offers, heartbeats, gaps, releases, guidOf}
 use Rattle.call_line.specs.declared.line.LinePair.{LinePair}
 use Rattle.call_line.specs.declared.line.LineDigest.{LineDigest}

@@ -1,27 +1,40 @@
 // The fields of a line that may be absent, `-`.
+use fields::cursor::dash_after;
+use fields::cursor::number_after;
+use fields::cursor::word_after;
 use fields::number_at;
 use fields::only_byte;
-use fields::word_at;
-use history::order::Digest;
+use offers::call::Digest;
 use store::entry::Optional;
+ghost use Prim.Native.Nat.{_-_, _^_};
 ghost use mathlib.Core.Path.{_≡_};
+ghost use mathlib.Core.Option.{some};
+ghost use lib.IntN.{pos};
+ghost use Rattle.decimal.specs.Read.{readSigned};
 ghost use Rattle.store.specs.Records.{optionalAs};
-ghost use Rattle.history.specs.Calls.{digestAs};
-ghost use Rattle.fields.specs.Fields.{told};
-ghost use Rattle.call_line.specs.Line.{numberIf, wordIf};
+ghost use Rattle.offers.specs.Calls.{digestAs};
+ghost use Rattle.fields.specs.Fields.{toldOr, upTo};
+ghost use Rattle.fields.specs.Cursor.{fieldAfter, foundOr};
+ghost use Rattle.call_line.specs.Line.{optional, numberIf};
 
 pub struct NumberIf {
     pub ok: bool,
     pub value: Optional,
 }
 
-pub(crate) struct WordIf {
-    pub ok: bool,
-    pub value: Digest,
+pub(crate) struct NumberIfAfter {
+    pub value: Optional,
+    pub end: usize,
 }
 
+pub(crate) struct WordIfAfter {
+    pub value: Digest,
+    pub end: usize,
+}
+
+// Where the field is bad, its value is 0.
 pub fn number_if(line: &[u8], k: usize) -> NumberIf
-    ensures { λ r. ⌜ told (r .ok) (optionalAs (r .value)) ≡ numberIf k (now (line .entry)) ⌝ }
+    ensures { λ r. ⌜ (r .ok, optionalAs (r .value)) ≡ toldOr (some (pos 0)) (numberIf k (now (line .entry))) ⌝ }
 {
     if only_byte(line, k) == b'-' {
         return NumberIf {
@@ -36,18 +49,35 @@ pub fn number_if(line: &[u8], k: usize) -> NumberIf
     }
 }
 
-pub(crate) fn word_if(line: &[u8], k: usize) -> WordIf
-    ensures { λ r. ⌜ told (r .ok) (digestAs (r .value)) ≡ wordIf k (now (line .entry)) ⌝ }
+// What stands behind the space at `at`; where that is bad, its end is past every text.
+pub(crate) fn number_if_after(s: &[u8], at: usize, newlines: bool) -> NumberIfAfter
+    ensures { λ r. ⌜ (optionalAs (r .value), r .end) ≡ foundOr (some (pos 0)) (fieldAfter (λ f. optional (readSigned f) f) newlines at (now (s .entry))) ⌝ }
 {
-    if only_byte(line, k) == b'-' {
-        return WordIf {
-            ok: true,
-            value: Digest::Absent,
+    if dash_after(s, at, newlines) {
+        return NumberIfAfter {
+            value: Optional::Absent, // `-`
+            end: at + 2,
         };
     }
-    let read = word_at(line, k);
-    WordIf {
-        ok: read.ok,
+    let read = number_after(s, at, newlines);
+    NumberIfAfter {
+        value: Optional::Present(read.value),
+        end: read.end,
+    }
+}
+
+pub(crate) fn word_if_after(s: &[u8], at: usize, newlines: bool) -> WordIfAfter
+    ensures { λ r. ⌜ (digestAs (r .value), r .end) ≡ foundOr (some 0) (fieldAfter (λ f. optional (upTo (2 ^ 32 - 1) f) f) newlines at (now (s .entry))) ⌝ }
+{
+    if dash_after(s, at, newlines) {
+        return WordIfAfter {
+            value: Digest::Absent,
+            end: at + 2,
+        };
+    }
+    let read = word_after(s, at, newlines);
+    WordIfAfter {
         value: Digest::Present(read.value),
+        end: read.end,
     }
 }

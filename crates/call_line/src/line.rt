@@ -1,14 +1,14 @@
 // What a line spells, with a GUID by its number k: fifteen zero bytes and k.
 use group_view::view::DigestRow;
 use group_view::view::Pair;
-use history::order::Digest;
-use history::order::Gap;
-use history::order::Heartbeat;
-use history::order::Offer;
+use offers::call::Digest;
+use offers::call::Gap;
+use offers::call::Heartbeat;
+use offers::call::Offer;
 use store::entry::Optional;
 use store::entry::What;
 ghost use mathlib.Core.Path.{_≡_};
-ghost use Rattle.history.specs.Calls.{offerAs, heartbeatAs, gapAs};
+ghost use Rattle.offers.specs.Calls.{offerAs, heartbeatAs, gapAs};
 ghost use Rattle.group_view.specs.View.{pairAs, digestRowAs};
 ghost use Rattle.call_line.specs.Line.{guidOf};
 ghost use Rattle.call_line.specs.Parsed.{pairOf, digestRowOf, offerOf, heartbeatOf, gapOf};

@@ -1,25 +1,27 @@
-// A line of the call list, read.
-use crate::field::number_if;
-use crate::field::word_if;
+// A line of the call list, read in one pass.
+use crate::field::number_if_after;
+use crate::field::word_if_after;
 use crate::line::LineDigest;
 use crate::line::LineGap;
 use crate::line::LineHeartbeat;
 use crate::line::LineOffer;
 use crate::line::LinePair;
-use fields::Long;
-use fields::byte_at;
-use fields::field_count;
-use fields::long_at;
-use fields::number_at;
-use fields::only_byte;
-use fields::word_at;
+use fields::cursor::byte_after;
+use fields::cursor::is_last;
+use fields::cursor::letter_at;
+use fields::cursor::line_end;
+use fields::cursor::long_after;
+use fields::cursor::number_after;
+use fields::cursor::word_after;
+use store::entry::Optional;
 use store::entry::SetEnd;
 use store::entry::What;
+ghost use Prim.Native.Nat.{_+_};
 ghost use mathlib.Core.Path.{_≡_};
-ghost use Rattle.store.specs.Records.{whatAs};
-ghost use Rattle.call_line.specs.Line.{pairIn, offerLine, startLine, countedLine, digestLine, sampleLine, endLine, heartbeatLine, gapLine, releaseLine, lineOf};
-ghost use Rattle.fields.specs.Fields.{told};
-ghost use Rattle.call_line.specs.Parsed.{pairOf, parsedAs};
+ghost use mathlib.Core.Option.{none};
+ghost use Rattle.call_line.specs.Line.{startLine, countedLine, digestLine, sampleLine, endLine, heartbeatLine, gapLine, releaseLine, lineOf, lineFrom};
+ghost use Rattle.call_line.specs.Parsed.{parsedAs};
+ghost use Rattle.call_line.specs.Places.{Offering, At};
 
 pub enum Parsed {
     Timeout(u64),
@@ -32,170 +34,223 @@ pub enum Parsed {
     Bad,
 }
 
-// Whether the fields are good, and what they spell.
-struct ReadPair {
-    ok: bool,
-    value: LinePair,
+// What a line spells, and where it ends.
+pub struct LineAt {
+    pub parsed: Parsed,
+    pub end: usize,
 }
 
-struct ReadWhat {
-    ok: bool,
-    value: What,
+// The fields of an offer that `S` and `E` lines share.
+struct OfferAt {
+    group: u8,
+    writer: u8,
+    reader: u8,
+    number: i64,
+    set: Optional,
+    digest: u32,
+    end: usize,
 }
 
+// The line that is all of `line`.
 pub fn parse(line: &[u8]) -> Parsed
     ensures { λ r. ⌜ parsedAs r ≡ lineOf (now (line .entry)) ⌝ }
 {
-    let letter = only_byte(line, 0);
+    let whole = parse_at(line, 0, false);
+    let parsed = whole.parsed;
+    parsed
+}
+
+// The line of a text that begins at `at`: up to a newline, or, without `newlines`, all that is left.
+pub fn parse_at(text: &[u8], at: usize, newlines: bool) -> LineAt
+    ensures { λ r. ⌜ (parsedAs (r .parsed), r .end) ≡ lineFrom (λ l. lineOf l) newlines at (now (text .entry)) ⌝ }
+{
+    let letter = letter_at(text, at);
     match letter {
-        b'T' => start_line(line),
-        b'V' => counted_line(line),
-        b'D' => digest_line(line),
-        b'S' => sample_line(line),
-        b'E' => end_line(line),
-        b'H' => heartbeat_line(line),
-        b'G' => gap_line(line),
-        b'R' => release_line(line),
-        _ => Parsed::Bad,
+        b'T' => start_line(text, at, newlines),
+        b'V' => counted_line(text, at, newlines),
+        b'D' => digest_line(text, at, newlines),
+        b'S' => sample_line(text, at, newlines),
+        b'E' => end_line(text, at, newlines),
+        b'H' => heartbeat_line(text, at, newlines),
+        b'G' => gap_line(text, at, newlines),
+        b'R' => release_line(text, at, newlines),
+        _ => bad_line(text, at, newlines),
     }
 }
 
-fn start_line(line: &[u8]) -> Parsed
-    ensures { λ r. ⌜ parsedAs r ≡ startLine (now (line .entry)) ⌝ }
+fn bad_line(text: &[u8], at: usize, newlines: bool) -> LineAt
+    ensures { λ r. ⌜ (parsedAs (r .parsed), r .end) ≡ lineFrom (λ l. none) newlines at (now (text .entry)) ⌝ }
 {
-    let time = long_at(line, 1);
-    if time.ok & (field_count(line) == 2) {
-        return Parsed::Timeout(time.value);
-    }
-    Parsed::Bad
-}
-
-fn release_line(line: &[u8]) -> Parsed
-    ensures { λ r. ⌜ parsedAs r ≡ releaseLine (now (line .entry)) ⌝ }
-{
-    let time = long_at(line, 1);
-    if time.ok & (field_count(line) == 2) {
-        return Parsed::Release(time.value);
-    }
-    Parsed::Bad
-}
-
-// group writer reader
-fn read_pair(line: &[u8]) -> ReadPair
-    ensures { λ r. ⌜ told (r .ok) (pairOf (r .value)) ≡ pairIn (now (line .entry)) ⌝ }
-{
-    let group = byte_at(line, 1);
-    let writer = byte_at(line, 2);
-    let reader = byte_at(line, 3);
-    let value = LinePair {
-        group: group.value,
-        writer: writer.value,
-        reader: reader.value,
-    };
-    ReadPair {
-        ok: group.ok & writer.ok & reader.ok,
-        value,
+    let end = line_end(text, at, newlines);
+    LineAt {
+        parsed: Parsed::Bad,
+        end,
     }
 }
 
-fn counted_line(line: &[u8]) -> Parsed
-    ensures { λ r. ⌜ parsedAs r ≡ countedLine (now (line .entry)) ⌝ }
+fn start_line(text: &[u8], at: usize, newlines: bool) -> LineAt
+    requires { ⌜ At newlines (now text) at 1 (at + 1) ⌝ }
+    ensures { λ r. ⌜ (parsedAs (r .parsed), r .end) ≡ lineFrom (λ l. startLine l) newlines at (now (text .entry)) ⌝ }
 {
-    let pair = read_pair(line);
-    if pair.ok & (field_count(line) == 4) {
-        let row = pair.value;
-        return Parsed::Counted(row);
+    let time = long_after(text, at + 1, newlines);
+    if is_last(text, time.end) {
+        return LineAt {
+            parsed: Parsed::Timeout(time.value),
+            end: time.end,
+        };
     }
-    Parsed::Bad
+    bad_line(text, at, newlines)
 }
 
-fn digest_line(line: &[u8]) -> Parsed
-    ensures { λ r. ⌜ parsedAs r ≡ digestLine (now (line .entry)) ⌝ }
+fn release_line(text: &[u8], at: usize, newlines: bool) -> LineAt
+    requires { ⌜ At newlines (now text) at 1 (at + 1) ⌝ }
+    ensures { λ r. ⌜ (parsedAs (r .parsed), r .end) ≡ lineFrom (λ l. releaseLine l) newlines at (now (text .entry)) ⌝ }
 {
-    let group = byte_at(line, 1);
-    let digest = word_at(line, 2);
-    if group.ok & digest.ok & (field_count(line) == 3) {
+    let time = long_after(text, at + 1, newlines);
+    if is_last(text, time.end) {
+        return LineAt {
+            parsed: Parsed::Release(time.value),
+            end: time.end,
+        };
+    }
+    bad_line(text, at, newlines)
+}
+
+fn counted_line(text: &[u8], at: usize, newlines: bool) -> LineAt
+    requires { ⌜ At newlines (now text) at 1 (at + 1) ⌝ }
+    ensures { λ r. ⌜ (parsedAs (r .parsed), r .end) ≡ lineFrom (λ l. countedLine l) newlines at (now (text .entry)) ⌝ }
+{
+    let group = byte_after(text, at + 1, newlines);
+    let writer = byte_after(text, group.end, newlines);
+    let reader = byte_after(text, writer.end, newlines);
+    if is_last(text, reader.end) {
+        let row = LinePair {
+            group: group.value,
+            writer: writer.value,
+            reader: reader.value,
+        };
+        return LineAt {
+            parsed: Parsed::Counted(row),
+            end: reader.end,
+        };
+    }
+    bad_line(text, at, newlines)
+}
+
+fn digest_line(text: &[u8], at: usize, newlines: bool) -> LineAt
+    requires { ⌜ At newlines (now text) at 1 (at + 1) ⌝ }
+    ensures { λ r. ⌜ (parsedAs (r .parsed), r .end) ≡ lineFrom (λ l. digestLine l) newlines at (now (text .entry)) ⌝ }
+{
+    let group = byte_after(text, at + 1, newlines);
+    let digest = word_after(text, group.end, newlines);
+    if is_last(text, digest.end) {
         let row = LineDigest {
             group: group.value,
             digest: digest.value,
         };
-        return Parsed::Digest(row);
+        return LineAt {
+            parsed: Parsed::Digest(row),
+            end: digest.end,
+        };
     }
-    Parsed::Bad
+    bad_line(text, at, newlines)
 }
 
-fn sample_line(line: &[u8]) -> Parsed
-    ensures { λ r. ⌜ parsedAs r ≡ sampleLine (now (line .entry)) ⌝ }
+// group writer reader number set digest
+fn offer_at(text: &[u8], at: usize, newlines: bool) -> OfferAt
+    requires { ⌜ At newlines (now text) at 1 (at + 1) ⌝ }
+    ensures { λ r. ⌜ Offering newlines (now (text .entry)) at r ⌝ }
 {
-    let item = word_at(line, 7);
-    let what = ReadWhat {
-        ok: item.ok,
-        value: What::Sample(item.value),
-    };
-    let time = long_at(line, 8);
-    offer_line(line, 9, what, time)
+    let group = byte_after(text, at + 1, newlines);
+    let writer = byte_after(text, group.end, newlines);
+    let reader = byte_after(text, writer.end, newlines);
+    let number = number_after(text, reader.end, newlines);
+    let set = number_if_after(text, number.end, newlines);
+    let digest = word_after(text, set.end, newlines);
+    let mark = set.value;
+    OfferAt {
+        group: group.value,
+        writer: writer.value,
+        reader: reader.value,
+        number: number.value,
+        set: mark,
+        digest: digest.value,
+        end: digest.end,
+    }
 }
 
-fn end_line(line: &[u8]) -> Parsed
-    ensures { λ r. ⌜ parsedAs r ≡ endLine (now (line .entry)) ⌝ }
+fn sample_line(text: &[u8], at: usize, newlines: bool) -> LineAt
+    requires { ⌜ At newlines (now text) at 1 (at + 1) ⌝ }
+    ensures { λ r. ⌜ (parsedAs (r .parsed), r .end) ≡ lineFrom (λ l. sampleLine l) newlines at (now (text .entry)) ⌝ }
 {
-    let first = number_if(line, 7);
-    let own = number_if(line, 8);
-    let from = first.value;
-    let at = own.value;
-    let end = SetEnd {
-        first: from,
-        own: at,
-    };
-    let what = ReadWhat {
-        ok: first.ok & own.ok,
-        value: What::End(end),
-    };
-    let time = long_at(line, 9);
-    offer_line(line, 10, what, time)
-}
-
-// group writer reader number set digest, what it holds, time
-fn offer_line(line: &[u8], fields: usize, what: ReadWhat, time: Long) -> Parsed
-    ensures { λ r. ⌜ parsedAs r ≡ offerLine fields (now (line .entry)) (told (what .ok) (whatAs (what .value))) (told (time .ok) (time .value)) ⌝ }
-{
-    let group = byte_at(line, 1);
-    let writer = byte_at(line, 2);
-    let reader = byte_at(line, 3);
-    let number = number_at(line, 4);
-    let set = number_if(line, 5);
-    let digest = word_at(line, 6);
-    let ok = group.ok & writer.ok & reader.ok & number.ok & set.ok & digest.ok & what.ok & time.ok;
-    if ok & (field_count(line) == fields) {
-        let mark = set.value;
-        let held = what.value;
-        let offer = LineOffer {
-            group: group.value,
-            writer: writer.value,
-            reader: reader.value,
-            number: number.value,
-            set: mark,
-            digest: digest.value,
-            what: held,
+    let offer = offer_at(text, at, newlines);
+    let item = word_after(text, offer.end, newlines);
+    let time = long_after(text, item.end, newlines);
+    if is_last(text, time.end) {
+        let what = What::Sample(item.value);
+        let set = offer.set;
+        let line = LineOffer {
+            group: offer.group,
+            writer: offer.writer,
+            reader: offer.reader,
+            number: offer.number,
+            set,
+            digest: offer.digest,
+            what,
             time: time.value,
         };
-        return Parsed::Offer(offer);
+        return LineAt {
+            parsed: Parsed::Offer(line),
+            end: time.end,
+        };
     }
-    Parsed::Bad
+    bad_line(text, at, newlines)
 }
 
-fn heartbeat_line(line: &[u8]) -> Parsed
-    ensures { λ r. ⌜ parsedAs r ≡ heartbeatLine (now (line .entry)) ⌝ }
+fn end_line(text: &[u8], at: usize, newlines: bool) -> LineAt
+    requires { ⌜ At newlines (now text) at 1 (at + 1) ⌝ }
+    ensures { λ r. ⌜ (parsedAs (r .parsed), r .end) ≡ lineFrom (λ l. endLine l) newlines at (now (text .entry)) ⌝ }
 {
-    let group = byte_at(line, 1);
-    let writer = byte_at(line, 2);
-    let first = number_at(line, 3);
-    let last = number_at(line, 4);
-    let current = number_at(line, 5);
-    let digest = word_if(line, 6);
-    let secure = word_if(line, 7);
-    let ok = group.ok & writer.ok & first.ok & last.ok & current.ok & digest.ok & secure.ok;
-    if ok & (field_count(line) == 8) {
+    let offer = offer_at(text, at, newlines);
+    let first = number_if_after(text, offer.end, newlines);
+    let own = number_if_after(text, first.end, newlines);
+    let time = long_after(text, own.end, newlines);
+    if is_last(text, time.end) {
+        let from = first.value;
+        let own = own.value;
+        let end = SetEnd { first: from, own };
+        let what = What::End(end);
+        let set = offer.set;
+        let line = LineOffer {
+            group: offer.group,
+            writer: offer.writer,
+            reader: offer.reader,
+            number: offer.number,
+            set,
+            digest: offer.digest,
+            what,
+            time: time.value,
+        };
+        return LineAt {
+            parsed: Parsed::Offer(line),
+            end: time.end,
+        };
+    }
+    bad_line(text, at, newlines)
+}
+
+fn heartbeat_line(text: &[u8], at: usize, newlines: bool) -> LineAt
+    requires { ⌜ At newlines (now text) at 1 (at + 1) ⌝ }
+    ensures { λ r. ⌜ (parsedAs (r .parsed), r .end) ≡ lineFrom (λ l. heartbeatLine l) newlines at (now (text .entry)) ⌝ }
+{
+    let group = byte_after(text, at + 1, newlines);
+    let writer = byte_after(text, group.end, newlines);
+    let first = number_after(text, writer.end, newlines);
+    let last = number_after(text, first.end, newlines);
+    let current = number_after(text, last.end, newlines);
+    let digest = word_if_after(text, current.end, newlines);
+    let secure = word_if_after(text, digest.end, newlines);
+    if is_last(text, secure.end) {
         let discovered = digest.value;
         let secured = secure.value;
         let heartbeat = LineHeartbeat {
@@ -207,26 +262,33 @@ fn heartbeat_line(line: &[u8]) -> Parsed
             digest: discovered,
             secure: secured,
         };
-        return Parsed::Heartbeat(heartbeat);
+        return LineAt {
+            parsed: Parsed::Heartbeat(heartbeat),
+            end: secure.end,
+        };
     }
-    Parsed::Bad
+    bad_line(text, at, newlines)
 }
 
-fn gap_line(line: &[u8]) -> Parsed
-    ensures { λ r. ⌜ parsedAs r ≡ gapLine (now (line .entry)) ⌝ }
+fn gap_line(text: &[u8], at: usize, newlines: bool) -> LineAt
+    requires { ⌜ At newlines (now text) at 1 (at + 1) ⌝ }
+    ensures { λ r. ⌜ (parsedAs (r .parsed), r .end) ≡ lineFrom (λ l. gapLine l) newlines at (now (text .entry)) ⌝ }
 {
-    let group = byte_at(line, 1);
-    let writer = byte_at(line, 2);
-    let reader = byte_at(line, 3);
-    let number = number_at(line, 4);
-    if group.ok & writer.ok & reader.ok & number.ok & (field_count(line) == 5) {
+    let group = byte_after(text, at + 1, newlines);
+    let writer = byte_after(text, group.end, newlines);
+    let reader = byte_after(text, writer.end, newlines);
+    let number = number_after(text, reader.end, newlines);
+    if is_last(text, number.end) {
         let gap = LineGap {
             group: group.value,
             writer: writer.value,
             reader: reader.value,
             number: number.value,
         };
-        return Parsed::Gap(gap);
+        return LineAt {
+            parsed: Parsed::Gap(gap),
+            end: number.end,
+        };
     }
-    Parsed::Bad
+    bad_line(text, at, newlines)
 }

@@ -3,13 +3,18 @@ use calls::run::run_line;
 use decimal::put_bytes;
 use group_view::view::clear;
 use history::order::GroupOrder;
-use libc::STDOUT_FILENO;
 use line_input::begin;
 use line_input::next_line;
+use line_output::Output;
+use line_output::before_line;
+use line_output::gather;
+use line_output::nothing;
 ghost use Prim.Native.Nat.{_≤_};
 
 // No good line has more than 129 bytes, so one that is cut to fit is bad, as it was.
 type Line = [u8; 256];
+
+type Room = [u8; 65536];
 
 // Room for every answer, 3929 bytes, and a newline.
 type Out = [u8; 4096];
@@ -18,23 +23,31 @@ fn end_line(out: &mut Out, at: usize) -> usize {
     put_bytes(out, at, b"\n")
 }
 
-// Prints the first bytes of an answer, where it has so many.
-fn print(said: &Out, length: usize) {
+// Gathers the first bytes of an answer, where it has so many.
+fn gather_first(room: &mut Room, output: Output, said: &Out, length: usize) -> Output {
     let text: &[u8] = said;
     if length <= text.len() {
-        io::write_all(STDOUT_FILENO, &text[0..length]);
+        return gather(room, output, &text[0..length]);
     }
+    output
 }
 
-// Prints the answer to the first bytes of a line.
-fn answer(store: &mut [u64; 6984], view: &mut [u64; 1307], line: &Line, length: usize)
+// Gathers the answer to the first bytes of a line.
+fn answer(
+    store: &mut [u64; 6984],
+    view: &mut [u64; 1307],
+    line: &Line,
+    length: usize,
+    said: &mut Out,
+    room: &mut Room,
+    output: Output,
+) -> Output
     requires { ⌜ length ≤ 256 ⌝ }
 {
     let line: &[u8] = line;
-    let mut said = [0u8; 4096];
-    let n = run_line(store, view, &line[0..length], &mut said);
-    let end = end_line(&mut said, n);
-    print(&said, end);
+    let n = run_line(store, view, &line[0..length], said);
+    let end = end_line(said, n);
+    gather_first(room, output, said, end)
 }
 
 // So that the loop is seen to end, it counts down from more lines than any run has.
@@ -45,15 +58,30 @@ fn main() {
     clear(&mut view);
     let mut chunk = io::large_buffer();
     let mut line = [0u8; 256];
+    let mut said = [0u8; 4096];
+    let mut room = io::large_buffer();
+    let mut output = nothing();
     let mut input = begin();
     let mut turns = u64::MAX;
     while 0 < turns {
         turns -= 1;
+        output = before_line(&room, output, &chunk, input);
+        if output.broken {
+            return;
+        }
         let next = next_line(&mut chunk, input, &mut line);
         if !next.more {
             return;
         }
-        answer(&mut store, &mut view, &line, next.length);
+        output = answer(
+            &mut store,
+            &mut view,
+            &line,
+            next.length,
+            &mut said,
+            &mut room,
+            output,
+        );
         input = next.input;
     }
 }

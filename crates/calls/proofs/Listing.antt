@@ -1,13 +1,13 @@
 -- Laws of a call list run: what a line prints, and the lines of a text.
 use Prim.Native.Nat.{ℕ, suc, _+_, _-_, _≤_, _<_, min}
-use mathlib.Core.Path.{_≡_, refl, sym, ap, _∙_}
+use mathlib.Core.Path.{_≡_, refl, sym, ap, _∙_, subst}
 use mathlib.Core.Bool.{true, false, cond}
 use mathlib.Core.List.{List, [], _∷_, _++_, append-assoc}
 use mathlib.Core.Option.{Option}
 use native.Mathlib.Omega.{arith}
 use lib.Dec.{eqb}
 use lib.ListN.{length, take, drop, length-append, length-drop, drop-of-length-le}
-use lib.Seq.{take-all, take-append-seam, drop-drop}
+use lib.Seq.{take-all, take-append-seam, drop-drop, length-take-le}
 use Rattle.decimal.specs.Split.{stopOr, before, fieldEnd}
 use Rattle.decimal.proofs.Splitting.{before-le, end-within}
 use Rattle.decimal.specs.Print.{put}
@@ -16,6 +16,8 @@ use Rattle.rules.specs.State.{fresh}
 use Rattle.group_view.specs.View.{Cleared}
 use Rattle.store.specs.Store.{stateOf}
 use Rattle.fields.specs.Fields.{lengthen}
+use Rattle.fields.specs.Cursor.{lineIn, lineEnd}
+use Rattle.fields.proofs.OnePass.{line-first, line-ends}
 use Rattle.call_line.specs.Line.{Line, lineOf}
 use Rattle.calls.specs.Run.{Calls, begun, runIf, runLine, linesOf, runLines, runText}
 use Rattle.calls.specs.Runs.{Stands, Ran, RanOn, ranText}
@@ -145,3 +147,24 @@ module _ {text all store view out : List ℕ} {at i : ℕ} (l : Left text all st
     pub left-last : e ≡ length text → (r, out′) ≡ ranText text all
     unfolding runLines
     left-last g = put-none out′ r ∙ run-split [] (line-last text i e h p g)
+
+-- ---- the line at i, as its end says
+
+pub line-at : (s : List ℕ) (i e : ℕ) → i < length s → e ≡ lineEnd true i s → lineIn true (drop i s) ≡ take (e - i) (drop i s)
+unfolding lineEnd
+line-at s i e h p =
+    let n = ap (λ l. length l) (line-first (drop i s)) in
+    let b : length (lineIn true (drop i s)) ≡ before 10 (drop i s) = n ∙ length-take-le (before 10 (drop i s)) (drop i s) (before-le 10 (drop i s)) in
+    let q : before 10 (drop i s) ≡ e - i = omega (arith, p, b) in
+    line-first (drop i s) ∙ ap (λ k. take k (drop i s)) q
+
+pub ran-at : (s : List ℕ) (i e : ℕ) {at r : ℕ} {store view out store′ view′ out′ : List ℕ} → i < length s → e ≡ lineEnd true i s
+    → RanOn (lineIn true (drop i s)) at r store view out store′ view′ out′ → RanOn (take (e - i) (drop i s)) at r store view out store′ view′ out′
+ran-at s i e {at} {r} {store} {view} {out} {store′} {view′} {out′} h p x =
+    subst (λ l. RanOn l at r store view out store′ view′ out′) (line-at s i e h p) x
+
+pub end-is : (s : List ℕ) (i e : ℕ) → e ≡ lineEnd true i s → e ≡ fieldEnd 10 s i
+end-is s i e p = p ∙ sym (line-ends s i)
+
+pub end-within-text : (s : List ℕ) (i e : ℕ) → i < length s → e ≡ lineEnd true i s → (i ≤ e) × (e ≤ length s)
+end-within-text s i e h p = let q = end-in s i in let r = end-is s i e p in (omega (arith, h, q, r), omega (arith, q, r))

@@ -8,7 +8,7 @@ use mathlib.Core.Option.{some}
 use native.Mathlib.Omega.{arith}
 use lib.ListN.{length, take, drop, length-append, length-map}
 use lib.Seq.{take-at}
-use Rattle.laws.specs.Answer.{Answer, refused, answered}
+use Rattle.laws.specs.Answer.{Answer, refused, answered, Kept}
 use Rattle.decimal.specs.Print.{digitsOf}
 use Rattle.laws.specs.Lists.{all}
 use Rattle.rules.specs.Entry.{Entry, isSample}
@@ -21,7 +21,7 @@ use Rattle.rules.proofs.Stays.{release-cases, released-stays}
 use Rattle.rules.proofs.Conserve.{OnlySamples, only-samples}
 use Rattle.group_view.specs.View.{more, viewOf}
 use Rattle.store.specs.Store.{stateOf}
-use Rattle.release.specs.Released.{countOut, releaseTo, releaseNoted, Kept}
+use Rattle.release.specs.Released.{countOut, releaseTo, releaseNoted}
 use Rattle.call_line.specs.Line.{releases}
 use Rattle.calls.specs.Run.{Calls, rowsOf, refusedText, samplesText, countsText, outText, releaseText, runCall}
 use Rattle.calls.specs.Said.{Said, placesText}

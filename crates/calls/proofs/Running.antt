@@ -6,7 +6,7 @@ use mathlib.Core.List.{List}
 use mathlib.Core.Option.{Option, none, some}
 use native.Mathlib.Omega.{arith}
 use lib.ListN.{length}
-use Rattle.laws.specs.Answer.{Answer, refused, answered}
+use Rattle.laws.specs.Answer.{Answer, refused, answered, Kept}
 use Rattle.decimal.specs.Print.{put}
 use Rattle.decimal.proofs.Lengths.{printed-long}
 use Rattle.rules.specs.State.{State, fresh}
@@ -15,7 +15,6 @@ use Rattle.group_view.specs.View.{pairAs, digestRowAs, Cleared, Noted, NotedDig
 use Rattle.group_view.specs.declared.view.Pair as P
 use Rattle.group_view.specs.declared.view.DigestRow as D
 use Rattle.store.specs.Store.{stateOf}
-use Rattle.release.specs.Released.{Kept}
 use Rattle.call_line.specs.Line.{Line, starts, counts, digests}
 use Rattle.calls.specs.Run.{Calls, withHistory, bad, ok, refusedText, offerText, doneText, runCall, runIf}
 use Rattle.calls.specs.Said.{Said}

@@ -6,11 +6,11 @@ use mathlib.Core.Bool.{Bool, true, false}
 use mathlib.Core.List.{List, [], _∷_, _++_}
 use mathlib.Core.Option.{Option, none, some}
 use lib.ListN.{length}
+use Rattle.laws.specs.Answer.{Kept}
 use Rattle.decimal.specs.Print.{put}
 use Rattle.rules.specs.Offer.{offer, heartbeat, gap}
 use Rattle.rules.specs.Release.{malformed, release}
 use Rattle.store.specs.Store.{stateOf}
-use Rattle.release.specs.Released.{Kept}
 use Rattle.group_view.specs.View.{more, viewOf}
 use Rattle.call_line.specs.Line.{Line, starts, counts, digests, offers, heartbeats, gaps, releases}
 use Rattle.calls.specs.Run.{Calls, rowsOf, runIf, runLine, runText}

@@ -1,27 +1,41 @@
 // A whole call list, run.
-use crate::run::run_line;
-use decimal::field_end;
+use crate::run::run_parsed;
+use call_line::parse::parse_at;
 use decimal::put_bytes;
 use group_view::view::clear;
 use history::order::GroupOrder;
 ghost use mathlib.Core.Path.{_≡_};
+ghost use mathlib.Core.Bool.{true};
+ghost use lib.ListN.{drop};
+ghost use Rattle.fields.specs.Cursor.{lineIn, lineEnd};
 ghost use Rattle.calls.specs.Runs.{ranText, RanOn};
 
-// Runs a line, and puts its answer and a newline into out. `said` is a place to work in.
+// Where the next answer goes, and where the line that was run ends.
+struct Step {
+    at: usize,
+    end: usize,
+}
+
+// Runs the line of the text that begins at i, and puts its answer and a newline into out. `said` is a place to work in.
 fn run_on(
     store: &mut [u64; 6984],
     view: &mut [u64; 1307],
-    line: &[u8],
+    text: &[u8],
+    i: usize,
     said: &mut [u8; 4096],
     out: &mut [u8],
     at: usize,
-) -> usize
-    ensures { λ r. ⌜ RanOn (now (line .entry)) at r (now (store .entry)) (now (view .entry)) (now (out .entry)) (now (store .exit)) (now (view .exit)) (now (out .exit)) ⌝ }
+) -> Step
+    ensures { λ r. ⌜ RanOn (lineIn true (drop i (now (text .entry)))) at (r .at) (now (store .entry)) (now (view .entry)) (now (out .entry)) (now (store .exit)) (now (view .exit)) (now (out .exit)) ⌝ }
+    ensures { λ r. ⌜ r .end ≡ lineEnd true i (now (text .entry)) ⌝ }
 {
-    let n = run_line(store, view, line, said);
-    let text: &[u8] = said;
-    let next = put_bytes(out, at, &text[..n]);
-    put_bytes(out, next, b"\n")
+    let line = parse_at(text, i, true);
+    let parsed = line.parsed;
+    let n = run_parsed(store, view, parsed, said);
+    let answer: &[u8] = said;
+    let next = put_bytes(out, at, &answer[..n]);
+    let at = put_bytes(out, next, b"\n");
+    Step { at, end: line.end }
 }
 
 // Runs the lines of a call list from a fresh start, and puts their answers, each with a newline, at the front of out, as far as
@@ -39,12 +53,12 @@ pub extern "C" fn gubrestal_run_list(text: &[u8], out: &mut [u8]) -> usize
     let mut at: usize = 0;
     let mut i: usize = 0;
     while i < text.len() {
-        let end = field_end(text, i, b'\n');
-        at = run_on(&mut store, &mut view, &text[i..end], &mut said, out, at);
-        if end == text.len() {
+        let step = run_on(&mut store, &mut view, text, i, &mut said, out, at);
+        at = step.at;
+        if step.end == text.len() {
             return at;
         }
-        i = end + 1;
+        i = step.end + 1;
     }
     at
 }

@@ -22,7 +22,7 @@ ghost use mathlib.Core.Path.{_≡_};
 ghost use mathlib.Core.Option.{some, none};
 ghost use lib.ListN.{length};
 ghost use Rattle.call_line.specs.Line.{starts, counts, digests, offers, heartbeats, gaps, releases, lineOf};
-ghost use Rattle.call_line.specs.Parsed.{pairOf, digestRowOf, offerOf, heartbeatOf, gapOf};
+ghost use Rattle.call_line.specs.Parsed.{pairOf, digestRowOf, offerOf, heartbeatOf, gapOf, parsedAs};
 ghost use Rattle.calls.specs.Runs.{Ran};
 
 fn size(s: &[u8]) -> usize
@@ -147,17 +147,16 @@ fn run_bad(store: &mut [u64; 6984], view: &mut [u64; 1307], out: &mut [u8; 4096]
     say_bad(out, 0)
 }
 
-// Runs a line: the words stand for the calls after it, and out's first bytes, as many as the answer says, are what it prints. A
+// Runs what a line spells: the words stand for the calls after it, and out's first bytes, as many as the answer says, are what it prints. A
 // bad line and a refused call leave every word of store and view.
-pub fn run_line(
+pub(crate) fn run_parsed(
     store: &mut [u64; 6984],
     view: &mut [u64; 1307],
-    line: &[u8],
+    parsed: Parsed,
     out: &mut [u8; 4096],
 ) -> usize
-    ensures { λ r. ⌜ Ran (lineOf (now (line .entry))) r (now (store .entry)) (now (view .entry)) (now (out .entry)) (now (store .exit)) (now (view .exit)) (now (out .exit)) ⌝ }
+    ensures { λ r. ⌜ Ran (parsedAs parsed) r (now (store .entry)) (now (view .entry)) (now (out .entry)) (now (store .exit)) (now (view .exit)) (now (out .exit)) ⌝ }
 {
-    let parsed = parse(line);
     match parsed {
         Parsed::Timeout(t) => run_start(store, view, t, out),
         Parsed::Counted(p) => run_counted(store, view, p, out),
@@ -168,4 +167,17 @@ pub fn run_line(
         Parsed::Release(t) => run_release(store, view, t, out),
         Parsed::Bad => run_bad(store, view, out),
     }
+}
+
+// Runs a line, as `run_parsed` what it spells.
+pub fn run_line(
+    store: &mut [u64; 6984],
+    view: &mut [u64; 1307],
+    line: &[u8],
+    out: &mut [u8; 4096],
+) -> usize
+    ensures { λ r. ⌜ Ran (lineOf (now (line .entry))) r (now (store .entry)) (now (view .entry)) (now (out .entry)) (now (store .exit)) (now (view .exit)) (now (out .exit)) ⌝ }
+{
+    let parsed = parse(line);
+    run_parsed(store, view, parsed, out)
 }

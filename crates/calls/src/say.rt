@@ -1,12 +1,12 @@
 // What a line prints, into a lent list of bytes: each function says where the next byte goes.
 use decimal::put_bytes;
 use decimal::put_unsigned;
-use history::order::Accepted;
-use history::order::Offered;
+use offers::call::Accepted;
+use offers::call::Offered;
 use readings::readings::ReleaseCounts;
 ghost use mathlib.Core.List.{_∷_, _++_};
 ghost use Rattle.decimal.specs.Print.{digitsOf};
-ghost use Rattle.history.specs.Calls.{offeredAs, toldAs};
+ghost use Rattle.offers.specs.Calls.{offeredAs, toldAs};
 ghost use Rattle.readings.specs.Counts.{countsAs};
 ghost use Rattle.calls.specs.Run.{bad, ok, refusedText, countsText, offerText, doneText};
 ghost use Rattle.calls.specs.Said.{Said, placeText, placesText};

@@ -1,4 +1,4 @@
-mod Reading
+pub mod Reading
 pub mod Splitting
 mod Printing
 pub mod Putting

@@ -1,6 +1,6 @@
 -- The fields of a line of text, and what one spells.
 use Prim.Native.Nat.{ℕ, _-_, _^_}
-use mathlib.Core.Bool.{Bool, cond}
+use mathlib.Core.Bool.{Bool, true, false, cond}
 use mathlib.Core.List.{List, [], _∷_}
 use mathlib.Core.Option.{Option, none, some}
 use lib.Dec.{eqb}
@@ -45,6 +45,7 @@ long k l = readUnsigned (fieldAt k l)
 unfoldable pub number : ℕ → List ℕ → Option ℤ
 number k l = readSigned (fieldAt k l)
 
--- what was read of fields, with whether they are good
-unfoldable pub told : {A : Type 0} → Bool → A → Option A
-told ok v = cond ok (some v) none
+-- whether a field is good, and what it spells; z where it is bad
+unfoldable pub toldOr : {A : Type 0} → A → Option A → Bool × A
+toldOr z none = (false, z)
+toldOr z (some v) = (true, v)

@@ -1,13 +1,16 @@
 // The fields of a line, split at each space and numbered from 0. What is read of a field says whether it is good; where it is not, its value
-// means nothing.
+// is 0.
+pub mod cursor;
+
 use decimal::Signed;
 use decimal::Unsigned;
 use decimal::field_end;
 use decimal::read_signed;
 use decimal::read_unsigned;
 ghost use mathlib.Core.Path.{_≡_};
+ghost use lib.IntN.{pos};
 ghost use lib.ListN.{length};
-ghost use Rattle.fields.specs.Fields.{fieldsOf, fieldAt, only, byte, word, long, number, told};
+ghost use Rattle.fields.specs.Fields.{fieldsOf, fieldAt, only, byte, word, long, number, toldOr};
 
 pub struct Byte {
     pub ok: bool,
@@ -75,7 +78,7 @@ pub fn only_byte(line: &[u8], k: usize) -> u8
 }
 
 pub fn long_at(line: &[u8], k: usize) -> Long
-    ensures { λ r. ⌜ told (r .ok) (r .value) ≡ long k (now (line .entry)) ⌝ }
+    ensures { λ r. ⌜ (r .ok, r .value) ≡ toldOr 0 (long k (now (line .entry))) ⌝ }
 {
     let digits = span(line, k);
     let read = read_unsigned(digits);
@@ -83,13 +86,13 @@ pub fn long_at(line: &[u8], k: usize) -> Long
         Unsigned::Value(value) => Long { ok: true, value },
         Unsigned::Bad => Long {
             ok: false,
-            value: 0,
+            value: 0, // no number, or above 2^64 - 1
         },
     }
 }
 
 pub fn byte_at(line: &[u8], k: usize) -> Byte
-    ensures { λ r. ⌜ told (r .ok) (r .value) ≡ byte k (now (line .entry)) ⌝ }
+    ensures { λ r. ⌜ (r .ok, r .value) ≡ toldOr 0 (byte k (now (line .entry))) ⌝ }
 {
     let read = long_at(line, k);
     let n = read.value;
@@ -101,12 +104,12 @@ pub fn byte_at(line: &[u8], k: usize) -> Byte
     }
     Byte {
         ok: false,
-        value: 0,
+        value: 0, // above 255
     }
 }
 
 pub fn word_at(line: &[u8], k: usize) -> Word
-    ensures { λ r. ⌜ told (r .ok) (r .value) ≡ word k (now (line .entry)) ⌝ }
+    ensures { λ r. ⌜ (r .ok, r .value) ≡ toldOr 0 (word k (now (line .entry))) ⌝ }
 {
     let read = long_at(line, k);
     let n = read.value;
@@ -118,12 +121,12 @@ pub fn word_at(line: &[u8], k: usize) -> Word
     }
     Word {
         ok: false,
-        value: 0,
+        value: 0, // above 2^32 - 1
     }
 }
 
 pub fn number_at(line: &[u8], k: usize) -> Number
-    ensures { λ r. ⌜ told (r .ok) (r .value) ≡ number k (now (line .entry)) ⌝ }
+    ensures { λ r. ⌜ (r .ok, r .value) ≡ toldOr (pos 0) (number k (now (line .entry))) ⌝ }
 {
     let s = span(line, k);
     let read = read_signed(s);
@@ -131,7 +134,7 @@ pub fn number_at(line: &[u8], k: usize) -> Number
         Signed::Value(value) => Number { ok: true, value },
         Signed::Bad => Number {
             ok: false,
-            value: 0,
+            value: 0, // no number, or outside 64 bits
         },
     }
 }

@@ -5,7 +5,7 @@ use mathlib.Core.Bool.{true, false, _||_, cond}
 use mathlib.Core.List.{List}
 use lib.Dec.{ltb}
 use lib.ListN.{length, replicate}
-use Rattle.laws.specs.Answer.{refused}
+use Rattle.laws.specs.Answer.{refused, Kept}
 use Rattle.rules.specs.Offer.{refusal}
 use Rattle.rules.specs.State.{State}
 use Rattle.rules.specs.Release.{releaseRefusal, release}
@@ -13,7 +13,7 @@ use Rattle.group_view.specs.View.{pairsOf, digestsOf, more, viewOf, Cleared, No
 use Rattle.group_view.specs.declared.view.Pair as P
 use Rattle.group_view.specs.declared.view.DigestRow as D
 use Rattle.store.specs.Store.{stateOf}
-use Rattle.release.specs.Released.{releasedAs, releaseTo, releaseNoted, Kept}
+use Rattle.release.specs.Released.{releasedAs, releaseTo, releaseNoted}
 use Rattle.release.specs.declared.release.Released.{Released}
 use Rattle.group_view.proofs.Noting.{noted-rows, over-malformed, noted-view}
 

@@ -16,12 +16,12 @@ use denote.Ref.{now}
 use denote.Triple.Clauses.{AtExit}
 use borrow.Fn.Kinds.{Dens, resT, endedOf}
 use Rattle.rules.specs.State.{fresh}
-use Rattle.laws.specs.Answer.{Answer, refused, answered}
+use Rattle.laws.specs.Answer.{Answer, refused, answered, Kept}
 use Rattle.rules.specs.Release.{Outcome, release as released}
 use Rattle.rules.specs.Run.{waiting, written, saidRelease}
 use Rattle.store.specs.Store.{stateOf}
 use Rattle.group_view.specs.View.{NotedRows, rowsAs}
-use Rattle.release.specs.Released.{releasedAs, releaseTo, countOut, Kept}
+use Rattle.release.specs.Released.{releasedAs, releaseTo, countOut}
 use Rattle.group_view.specs.declared.view.Pair.{Pair}
 use Rattle.group_view.specs.declared.view.DigestRow.{DigestRow}
 use Rattle.history.proofs.Noting.{noted-release}

@@ -3,23 +3,27 @@ use Prim.Native.Nat.{ℕ}
 use mathlib.Core.Path.{_≡_}
 use mathlib.Core.List.{List, [], _∷_, map}
 use lib.ListN.{length}
-use Rattle.laws.specs.Answer.{Answer, refused, answered}
+use Rattle.laws.specs.Answer.{Answer, refused, answered, Kept}
 use Rattle.rules.specs.State.{fresh}
 use Rattle.rules.specs.Offer as O
 use Rattle.rules.specs.Run.{Call, offers, heartbeats, gaps, releases, Said, isRefused, isOffered, isDone, isReleased, saidOffer, saidDone, run, answers, statesAfter, written, waiting}
 use Rattle.rules.specs.Claim.{Demand3}
 use Rattle.store.specs.Store.{stateOf}
 use Rattle.group_view.specs.View.{rowsAs}
-use Rattle.history.specs.Calls.{offerAs, heartbeatAs, gapAs, offeredAs, toldAs}
-use Rattle.release.specs.Released.{releasedAs, releaseTo, Kept}
-use Rattle.history.specs.declared.order.Offer.{Offer}
-use Rattle.history.specs.declared.order.Offered.{Offered}
-use Rattle.history.specs.declared.order.Heartbeat.{Heartbeat}
-use Rattle.history.specs.declared.order.Gap.{Gap}
-use Rattle.history.specs.declared.order.Accepted.{Accepted}
+use Rattle.offers.specs.Calls.{offerAs, heartbeatAs, gapAs, offeredAs, toldAs}
+use Rattle.release.specs.Released.{releasedAs, releaseTo}
+use Rattle.offers.specs.declared.call.Offer.{Offer}
+use Rattle.offers.specs.declared.call.Offered.{Offered}
+use Rattle.offers.specs.declared.call.Heartbeat.{Heartbeat}
+use Rattle.offers.specs.declared.call.Gap.{Gap}
+use Rattle.offers.specs.declared.call.Accepted.{Accepted}
 use Rattle.release.specs.declared.release.Released.{Released}
 use Rattle.group_view.specs.declared.view.Pair.{Pair}
 use Rattle.group_view.specs.declared.view.DigestRow.{DigestRow}
+
+-- a release on lists of rows: its answer, and the state and the lent list that it leaves
+abbrev pub Releases : List ℕ → List Pair → List DigestRow → ℕ → List ℕ → Released → List ℕ → List ℕ → Type 0
+Releases l ps ds time o r m p = (releasedAs r, stateOf m, p) ≡ releaseTo (stateOf l) (rowsAs ps ds) time o
 
 -- a call and its answer; a release with its rows, time and lent list, and the list as it left it
 pub data Done : Type 0 where
@@ -33,7 +37,7 @@ unfoldable pub Meets : List ℕ → Done → List ℕ → Type 0
 Meets l (didOffer o r) m = ((offeredAs r, stateOf m) ≡ O.offer (stateOf l) (offerAs o)) × Kept (offeredAs r) l m
 Meets l (didHeartbeat h r) m = ((toldAs r, stateOf m) ≡ O.heartbeat (stateOf l) (heartbeatAs h)) × Kept (toldAs r) l m
 Meets l (didGap g r) m = ((toldAs r, stateOf m) ≡ O.gap (stateOf l) (gapAs g)) × Kept (toldAs r) l m
-Meets l (didRelease ps ds now o r p) m = ((releasedAs r, stateOf m, p) ≡ releaseTo (stateOf l) (rowsAs ps ds) now o) × Kept (releasedAs r) l m
+Meets l (didRelease ps ds now o r p) m = Releases l ps ds now o r m p × Kept (releasedAs r) l m
 
 -- each call gets the words that the last one left
 pub data Chain : List ℕ → List Done → List ℕ → Type 0 where

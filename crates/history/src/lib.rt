@@ -1,2 +1,2 @@
-// The subscriber's group history in a lent store: group_order.rs of the source, by the rules of crate `group_order`.
+// The subscriber's group history in a lent store: group_order.rs of the source, by the rules of crate `rules`.
 pub mod order;

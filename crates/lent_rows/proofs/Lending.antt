@@ -8,7 +8,8 @@ use Rattle.store.specs.Store.{stateOf}
 use Rattle.group_view.specs.View.{rowsAs}
 use Rattle.group_view.specs.declared.view.Pair.{Pair}
 use Rattle.group_view.specs.declared.view.DigestRow.{DigestRow}
-use Rattle.release.specs.Released.{releasedAs, releaseTo, Kept}
+use Rattle.laws.specs.Answer.{Kept}
+use Rattle.release.specs.Released.{releasedAs, releaseTo}
 use Rattle.release.specs.declared.release.Released.{Released}
 use Rattle.turn.specs.Turn.{rowAs, turnAs, turnTo, TurnKept}
 use Rattle.turn.specs.declared.steps.Progress.{Progress}

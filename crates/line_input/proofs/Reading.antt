@@ -9,12 +9,13 @@ use native.Mathlib.Numerals.{add-one}
 use native.Mathlib.Omega.{arith}
 use borrow.Author.Tests.{leb-true, leb-false, ltb-true, ltb-false, lt-ltb, le-ltb, ne-eqb}
 use lib.Dec.{eqb, leb, ltb}
-use lib.ListN.{length, take, drop, getD, set, length-append, length-take, drop-of-length-le}
+use lib.ListN.{length, take, drop, getD, set, length-append, length-take, length-drop, drop-of-length-le}
 use lib.Seq.{take-all, drop-cons, getD-take, set-at, take-append-le, drop-append-add}
-use Rattle.decimal.specs.Split.{stopOr, before}
+use Rattle.decimal.specs.Split.{stopOr, before, fieldEnd}
+use Rattle.decimal.proofs.Splitting.{before-le}
 use Rattle.line_input.specs.declared.Input.{Input}
 use Rattle.line_input.specs.declared.Line.{Line}
-use Rattle.line_input.specs.Input.{inputTo, lineTo, left, LineOf, LineRead}
+use Rattle.line_input.specs.Input.{inputTo, lineTo, left, hasLine, LineOf, LineRead}
 
 -- ---- where the first newline of two texts stands
 
@@ -241,3 +242,21 @@ module _
       })
       (λ h. absurd (not-here t a h))
       (λ h. (t .came, sym (append-nil (t .came)))))
+
+-- ---- a whole line that is left
+
+pub found-here : (s : List ℕ) (at : ℕ) → ltb (fieldEnd 10 s at) (length s) ≡ ltb (before 10 (drop at s)) (length (drop at s))
+unfolding fieldEnd
+found-here s at =
+    let n = length-drop at s in
+    let b = before-le 10 (drop at s) in
+    (elim (ltb (before 10 (drop at s)) (length (drop at s))) as (λ t. ltb (before 10 (drop at s)) (length (drop at s)) ≡ t → ltb (min at (length s) + before 10 (drop at s)) (length s) ≡ t) [
+      | true ↦ λ h. let k = ltb-true (before 10 (drop at s)) (length (drop at s)) h in lt-ltb (min at (length s) + before 10 (drop at s)) (length s) (omega (arith, k, n, b))
+      | false ↦ λ h. let k = ltb-false (before 10 (drop at s)) (length (drop at s)) h in le-ltb (min at (length s) + before 10 (drop at s)) (length s) (omega (arith, k, n, b))
+    ]) refl
+
+pub has-clamped : (chunk : List ℕ) (i : Input) (n : ℕ) → length chunk ≡ 65536 → n ≡ min (i .count) 65536 → hasLine chunk (inputTo (i .at) n) ≡ hasLine chunk i
+unfolding hasLine left inputTo
+has-clamped chunk i n l e =
+    let p : take n chunk ≡ take (i .count) chunk = ap (λ k. take k chunk) e ∙ clamped (i .count) chunk l in
+    ap (λ t. ltb (before 10 (drop (i .at) t)) (length (drop (i .at) t))) p

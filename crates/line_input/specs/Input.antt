@@ -22,6 +22,10 @@ lineTo n m i = record { length = n; more = m; input = i }
 unfoldable pub left : List ℕ → Input → List ℕ
 left chunk i = drop (i .at) (take (i .count) chunk)
 
+-- whether a newline is among them
+unfoldable pub hasLine : List ℕ → Input → Bool
+hasLine chunk i = ltb (before 10 (left chunk i)) (length (left chunk i))
+
 -- the line that `s` begins with, cut to fit; what stands behind its newline is left; where `s` has no byte the input has ended
 pub record LineOf (s line : List ℕ) (r : Line) (chunk′ line′ : List ℕ) : Type 0 where
   pub fits : r .length ≤ 256

@@ -1,9 +1,10 @@
 // The lines of standard input, whatever its length and whatever its bytes.
+use decimal::field_end;
 use libc::STDIN_FILENO;
-ghost use Prim.Native.Nat.{min};
+ghost use Prim.Native.Nat.{_≤_, min};
 ghost use mathlib.Core.Path.{_≡_};
 ghost use lib.ListN.{length};
-ghost use Rattle.line_input.specs.Input.{inputTo, unread, lineTo, LineRead};
+ghost use Rattle.line_input.specs.Input.{inputTo, unread, hasLine, lineTo, LineRead};
 
 // The bytes that were read and not yet taken: those of the lent chunk from `at` to `count`.
 pub struct Input {
@@ -47,6 +48,27 @@ fn whole(chunk: &[u8; 65536], line: &[u8; 256]) -> usize
 {
     size(chunk);
     size(line)
+}
+
+// Whether a whole line is left of what was read: where it is, `next_line` reads nothing.
+pub fn has_line(chunk: &[u8; 65536], input: Input) -> bool
+    ensures { λ r. ⌜ r ≡ hasLine (now (chunk .entry)) input ⌝ }
+{
+    size(chunk);
+    let count = within(input.count);
+    let at = input.at;
+    line_within(chunk, at, count)
+}
+
+// Whether a newline stands among the first `count` bytes, at or behind `at`.
+fn line_within(chunk: &[u8; 65536], at: usize, count: usize) -> bool
+    requires { ⌜ count ≤ 65536 ⌝ }
+    ensures { λ r. ⌜ r ≡ hasLine (now (chunk .entry)) (inputTo at count) ⌝ }
+{
+    size(chunk);
+    let all: &[u8] = chunk;
+    let read = &all[..count];
+    field_end(read, at, b'\n') < read.len()
 }
 
 // Takes the next line of the input. A longer one than 256 bytes is cut to 256. So that the loop is seen to end, it counts down

@@ -15,13 +15,12 @@ use turn::steps::finish;
 use turn::steps::goes;
 use turn::steps::note_reader;
 ghost use mathlib.Core.Path.{_≡_};
-ghost use mathlib.Core.List.{map};
 ghost use Rattle.rules.specs.State.{fresh};
 ghost use Rattle.rules.specs.Run.{waiting};
 ghost use Rattle.store.specs.Store.{stateOf};
-ghost use Rattle.group_view.specs.View.{rowsAs, Steps};
-ghost use Rattle.turn.specs.Items.{offerOf, offerItem, orderedAs, OfferKept};
-ghost use Rattle.turn.specs.Turn.{rowAs, turnAs, turnTo, TurnKept, NotedReader, Applies};
+ghost use Rattle.group_view.specs.View.{Steps};
+ghost use Rattle.turn.specs.Items.{brings, offerItem, orderedAs, OfferKept};
+ghost use Rattle.turn.specs.Turn.{turnAs, Turns, TurnKept, NotedReader, Applies};
 
 fn note_readers(view: &mut [u64; 1307], rows: &[Progress])
     ensures { λ _. ⌜ Steps NotedReader (now (rows .entry)) (now (view .entry)) (now (view .exit)) ⌝ }
@@ -60,7 +59,7 @@ impl GroupOrdering {
 
     // Takes an item into the history, or gives it back where it has no group information.
     pub fn offer(store: &mut [u64; 6984], item: GroupItem) -> Ordered
-        ensures is { λ r. ⌜ (orderedAs r, stateOf (now (store .exit))) ≡ offerItem (stateOf (now (store .entry))) (offerOf item (item .grouping)) ⌝ }
+        ensures is { λ r. ⌜ (orderedAs r, stateOf (now (store .exit))) ≡ offerItem (stateOf (now (store .entry))) (brings item) ⌝ }
         ensures kept { λ r. ⌜ OfferKept r (now (store .entry)) (now (store .exit)) ⌝ }
     {
         offer_item(store, item)
@@ -82,7 +81,8 @@ impl GroupOrdering {
         time: u64,
         out: &mut [u64],
     ) -> Turn
-        ensures is { λ r. ⌜ (turnAs r, stateOf (now (store .exit)), now (out .exit)) ≡ turnTo (stateOf (now (store .entry))) (map (λ p. rowAs p) (now (rows .entry))) (rowsAs (now (counted .entry)) (now (digests .entry))) time (now (out .entry)) ⌝ }
+        ensures is { λ r. ⌜ Turns (now (store .entry)) (now (rows .entry)) (now (counted .entry)) (now (digests .entry)) time (now (out .entry))
+            r (now (store .exit)) (now (out .exit)) ⌝ }
         ensures kept { λ r. ⌜ TurnKept (turnAs r) (now (store .entry)) (now (store .exit)) ⌝ }
     {
         let mut view = [0; 1307];

@@ -1,7 +1,5 @@
 -- What a release answers.
-use Prim.{Unit}
 use Prim.Native.Nat.{ℕ}
-use mathlib.Core.Path.{_≡_}
 use mathlib.Core.Bool.{cond}
 use mathlib.Core.List.{List}
 use lib.ListN.{length}
@@ -31,8 +29,3 @@ releaseTo s v now l =
 -- the same on the rows that a view has noted; with more than it holds: 9
 unfoldable pub releaseNoted : List ℕ → State ℕ → ℕ → List ℕ → Answer ℕ × State ℕ × List ℕ
 releaseNoted v s now l = cond (more v) (refused 9, s, l) (releaseTo s (viewOf v) now l)
-
--- a refused call leaves every word as it was
-unfoldable pub Kept : {X : Type 0} → Answer X → List ℕ → List ℕ → Type 0
-Kept (refused n) l m = m ≡ l
-Kept (answered x) l m = Unit {0}

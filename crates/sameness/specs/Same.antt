@@ -8,7 +8,7 @@ use Rattle.laws.specs.Answer.{Answer, refused, answered}
 use Rattle.rules.specs.Run.{saidOffer, saidDone, nothingWaits, waiting}
 use Rattle.store.specs.Store.{stateOf}
 use Rattle.release.specs.Released.{releasedAs}
-use Rattle.history.specs.Calls.{offeredAs, toldAs}
+use Rattle.offers.specs.Calls.{offeredAs, toldAs}
 use Rattle.history.specs.Chain.{Done, didOffer, didHeartbeat, didGap, didRelease, callOf}
 use Rattle.source_model.specs.Source.{new, heldFor, isEmpty}
 use Rattle.source_model.specs.Calls.{Told, toldRefused, toldOffered, toldDone, toldReleased, told, run, answers}

@@ -3,12 +3,11 @@ use Prim.{Unit, tt}
 use Prim.Native.Nat.{ℕ}
 use mathlib.Core.Path.{_≡_, refl, sym, subst, ap, _∙_}
 use mathlib.Core.Bool.{Bool, true, false, _&&_, _||_, cond}
-use mathlib.Core.List.{List, [], _∷_, _++_, map, append-nil}
+use mathlib.Core.List.{List, [], _∷_, _++_, map}
 use mathlib.Core.Option.{Option, some, none}
 use lib.IntN.{ℤ, pos}
 use lib.Signed.{ltZ}
 use lib.Dec.{ltb}
-use native.Mathlib.Omega.{arith}
 use lib.ListN.{length, take, replicate}
 use Rattle.laws.specs.Answer.{Answer, refused, answered}
 use Rattle.laws.specs.Lists.{all, any, change}
@@ -24,7 +23,7 @@ use Rattle.rules.proofs.Reached.{run-reached}
 use Rattle.laws.proofs.Lists.{and-left, any-all, any-by-map, map-change, or-left, or-right, or-true-left, or-true-right}
 use Rattle.store.specs.Store.{stateOf}
 use Rattle.group_view.specs.View.{viewOf, pairsOf, digestsOf, more, pairAs, digestRowAs, rowsAs, Noted, NotedDigest, NotedRows, Steps}
-use Rattle.history.specs.Calls.{digestAs}
+use Rattle.offers.specs.Calls.{digestAs}
 use Rattle.release.specs.Released.{countOut, releaseTo, releaseNoted}
 use Rattle.history.specs.Chain.{counted}
 use Rattle.group_view.specs.declared.view.Pair.{Pair}

@@ -4,13 +4,12 @@ use mathlib.Core.Path.{_≡_}
 use mathlib.Core.List.{List, _++_}
 use mathlib.Core.Option.{Option, some, none}
 use lib.ListN.{take, replicate}
-use Rattle.laws.specs.Answer.{Answer}
+use Rattle.laws.specs.Answer.{Answer, Kept}
 use Rattle.guids.specs.Guid.{Guid}
 use Rattle.rules.specs.State.{State}
 use Rattle.rules.specs.Offer as O
 use Rattle.store.specs.Records.{optionalAs, whatAs}
-use Rattle.history.specs.Calls.{offeredAs}
-use Rattle.release.specs.Released.{Kept}
+use Rattle.offers.specs.Calls.{offeredAs}
 use Rattle.turn.specs.declared.items.GroupMark.{GroupMark}
 use Rattle.turn.specs.declared.items.Grouping.{Grouping}
 use Rattle.turn.specs.declared.items.Grouping.the-variants.{Plain, Unnamed, Named}
@@ -39,6 +38,10 @@ unfoldable pub offerOf : GroupItem → Grouping → Option (O.Offer ℕ)
 offerOf i Plain = none
 offerOf i (Unnamed m) = some (offerBy (participantKey (i .writer)) m i)
 offerOf i (Named m) = some (offerBy (i .group) m i)
+
+-- by its own grouping
+abbrev pub brings : GroupItem → Option (O.Offer ℕ)
+brings i = offerOf i (i .grouping)
 
 -- an item that makes none is given back
 unfoldable pub offerItem : State ℕ → Option (O.Offer ℕ) → Option (Answer O.Fate) × State ℕ

@@ -16,11 +16,13 @@ use Rattle.rules.specs.State.{State, Counts, knowsWriter}
 use Rattle.rules.specs.Release.{View, malformed, samples}
 use Rattle.rules.specs.Run.{Call, heartbeats, gaps, releases, step, run, written, nothingWaits}
 use Rattle.store.specs.Store.{stateOf}
-use Rattle.group_view.specs.View.{pairsOf, digestsOf, more, viewOf}
-use Rattle.history.specs.Calls.{digestAs}
+use Rattle.group_view.specs.View.{pairsOf, digestsOf, more, viewOf, rowsAs}
+use Rattle.offers.specs.Calls.{digestAs}
 use Rattle.readings.specs.Counts.{countsAs}
 use Rattle.release.specs.Released.{releaseTo, releaseNoted}
 use Rattle.history.specs.Chain.{counted}
+use Rattle.group_view.specs.declared.view.Pair.{Pair}
+use Rattle.group_view.specs.declared.view.DigestRow.{DigestRow}
 use Rattle.turn.specs.declared.steps.Beat.{Beat}
 use Rattle.turn.specs.declared.steps.Heard.{Heard}
 use Rattle.turn.specs.declared.steps.Heard.the-variants.{Nothing, Latest}
@@ -161,6 +163,10 @@ unfoldable pub TurnKept : Turned → List ℕ → List ℕ → Type 0
 TurnKept idle l m = m ≡ l
 TurnKept (notDone n) l m = m ≡ l
 TurnKept (released n c) l m = Unit {0}
+
+-- a turn on lists of rows: its answer, and the state and the lent list that it leaves
+abbrev pub Turns : List ℕ → List Progress → List Pair → List DigestRow → ℕ → List ℕ → Turn → List ℕ → List ℕ → Type 0
+Turns l rows ps ds time o r m p = (turnAs r, stateOf m, p) ≡ turnTo (stateOf l) (map (λ x. rowAs x) rows) (rowsAs ps ds) time o
 
 -- ---- its steps
 

@@ -1,13 +1,13 @@
 // Items off a reader's channel, and the offers that they make.
 use history::order::GroupOrder;
-use history::order::Offer;
-use history::order::Offered;
+use offers::call::Offer;
+use offers::call::Offered;
 use store::entry::Optional;
 use store::entry::What;
 ghost use mathlib.Core.Path.{_≡_};
 ghost use Rattle.store.specs.Store.{stateOf};
-ghost use Rattle.history.specs.Calls.{offerAs};
-ghost use Rattle.turn.specs.Items.{participantKey, offerBy, offerOf, offerItem, orderedAs, OfferKept};
+ghost use Rattle.offers.specs.Calls.{offerAs};
+ghost use Rattle.turn.specs.Items.{participantKey, offerBy, brings, offerItem, orderedAs, OfferKept};
 
 // The group of a writer whose announcement named none: its participant.
 pub fn participant_group_key(writer: [u8; 16]) -> [u8; 16]
@@ -70,7 +70,7 @@ fn offer_by(group: [u8; 16], mark: GroupMark, item: GroupItem) -> Offer
 
 // Takes an item into the history, or gives it back where it has no group information.
 pub fn offer_item(store: &mut [u64; 6984], item: GroupItem) -> Ordered
-    ensures is { λ r. ⌜ (orderedAs r, stateOf (now (store .exit))) ≡ offerItem (stateOf (now (store .entry))) (offerOf item (item .grouping)) ⌝ }
+    ensures is { λ r. ⌜ (orderedAs r, stateOf (now (store .exit))) ≡ offerItem (stateOf (now (store .entry))) (brings item) ⌝ }
     ensures kept { λ r. ⌜ OfferKept r (now (store .entry)) (now (store .exit)) ⌝ }
 {
     let grouping = item.grouping;

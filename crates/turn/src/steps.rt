@@ -1,10 +1,10 @@
 // The steps of the subscriber turn, a row or a verdict at a time.
 use group_view::view::is_malformed;
 use group_view::view::spoil;
-use history::order::Digest;
-use history::order::Gap;
 use history::order::GroupOrder;
-use history::order::Heartbeat;
+use offers::call::Digest;
+use offers::call::Gap;
+use offers::call::Heartbeat;
 use readings::readings::ReleaseCounts;
 use readings::readings::sample_count;
 use release::release::Released;
@@ -177,7 +177,8 @@ fn difference(before: ReleaseCounts, after: ReleaseCounts) -> ReleaseCounts
 
 // The release, with the difference of counts.
 fn release_counted(store: &mut [u64; 6984], view: &[u64; 1307], time: u64, out: &mut [u64]) -> Turn
-    ensures { λ r. ⌜ Ended none (now (store .entry)) (now (view .entry)) time (now (out .entry)) r (now (store .exit)) (now (out .exit)) ⌝ }
+    ensures { λ r. ⌜ Ended none (now (store .entry)) (now (view .entry)) time (now (out .entry))
+        r (now (store .exit)) (now (out .exit)) ⌝ }
 {
     let before = GroupOrder::counts(store);
     match release_noted(store, view, time, out) {
@@ -198,7 +199,8 @@ pub fn finish(
     time: u64,
     out: &mut [u64],
 ) -> Turn
-    ensures { λ r. ⌜ Ended (verdictAs verdict) (now (store .entry)) (now (view .entry)) time (now (out .entry)) r (now (store .exit)) (now (out .exit)) ⌝ }
+    ensures { λ r. ⌜ Ended (verdictAs verdict) (now (store .entry)) (now (view .entry)) time (now (out .entry))
+        r (now (store .exit)) (now (out .exit)) ⌝ }
 {
     match verdict {
         Verdict::Goes => release_counted(store, view, time, out),

@@ -1,7 +1,7 @@
 -- `fields::byte_at` meets its contract.
 use Prim.Native.Nat.{_-_, _^_}
 use native.Mathlib.Omega.{arith}
-use Rattle.fields.specs.Fields.{fieldAt, long, byte, told}
+use Rattle.fields.specs.Fields.{fieldAt, long, byte}
 use Rattle.fields.proofs.Told.{told-within, told-above}
 use borrow.Author.Needs.{needs}
 use Rattle.fields.proofs.byte_at.Statement.{statement}
@@ -22,7 +22,7 @@ returns c =
     told-within (2 ^ 8 - 1) (t .result .ok) (t .result .value) (fieldAt (a .k) (a .line .now)) (t .ensures) (omega arith)
 
 returns-2 : tie.Need-returns-2
-unfolding told long byte
+unfolding long byte
 returns-2 c =
     let k = c .before in
     let t = k .long-at in

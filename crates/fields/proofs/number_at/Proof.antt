@@ -1,9 +1,10 @@
 -- `fields::number_at` meets its contract.
 use mir.Facts.{toZ-ofZ}
 use mathlib.Core.Bool.{true}
+use lib.IntN.{pos}
 use mathlib.Core.Path.{sym, ap, _∙_}
 use Rattle.decimal.specs.Read.{signedAs, readSigned}
-use Rattle.fields.specs.Fields.{number, told}
+use Rattle.fields.specs.Fields.{number, toldOr}
 use borrow.Author.Needs.{needs}
 use Rattle.fields.proofs.number_at.Statement.{statement}
 use Rattle.fields.proofs.number_at.Tie as tie
@@ -21,14 +22,14 @@ enum-told : tie.Need-enum-told
 enum-told c = search needs
 
 returns : tie.Need-returns
-unfolding signedAs told number
+unfolding signedAs toldOr number
 returns c =
-    ap (λ y. told true y) (toZ-ofZ (record { sfits = c .known-told .given .0 .1 })) ∙ sym (ap (λ r. signedAs r) (c .before .read .given .1)) ∙ c .before .before .before .read-signed .ensures ∙ ap (λ s. readSigned s) (c .before .before .before .before .span .ensures)
+    ap (λ y. (true, y)) (toZ-ofZ (record { sfits = c .known-told .given .0 .1 })) ∙ ap (λ r. toldOr (pos 0) r) (sym (ap (λ r. signedAs r) (c .before .read .given .1)) ∙ c .before .before .before .read-signed .ensures ∙ ap (λ s. readSigned s) (c .before .before .before .before .span .ensures))
 
 returns-2 : tie.Need-returns-2
-unfolding signedAs told number
+unfolding signedAs toldOr number
 returns-2 c =
-    sym (ap (λ r. signedAs r) (c .enum-told .given .1)) ∙ c .before .before .read-signed .ensures ∙ ap (λ s. readSigned s) (c .before .before .before .span .ensures)
+    ap (λ r. toldOr (pos 0) r) (sym (ap (λ r. signedAs r) (c .enum-told .given .1)) ∙ c .before .before .read-signed .ensures ∙ ap (λ s. readSigned s) (c .before .before .before .span .ensures))
 
 pub number-at-spec : {M : Type 1} → statement M
 number-at-spec =

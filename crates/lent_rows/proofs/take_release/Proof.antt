@@ -57,7 +57,8 @@ use Rattle.history.proofs.Locals.{local-in, local-room, FirstLent, lends-first,
 use Prim.Native.Nat.{min}
 use Rattle.store.specs.Store.{stateOf}
 use Rattle.group_view.specs.View.{rowsAs}
-use Rattle.release.specs.Released.{releasedAs, releaseTo, Kept}
+use Rattle.laws.specs.Answer.{Kept}
+use Rattle.release.specs.Released.{releasedAs, releaseTo}
 use Rattle.lent_rows.proofs.Lending.{min-most, lent-release}
 use Rattle.group_view.specs.declared.view.Pair.{Pair}
 use Rattle.group_view.proofs.view.Pair as Pair-T

@@ -1,39 +1,44 @@
 -- `call_line::parse::release_line` meets its contract.
-use mathlib.Core.Bool.{true, false}
-use Rattle.fields.specs.Fields.{told}
-use Rattle.call_line.specs.Parsed.{parsedAs}
-use Rattle.call_line.proofs.Lines.{release-told}
+use mathlib.Core.Path.{sym, _∙_}
+use native.Mathlib.Omega.{arith}
 use borrow.Author.Needs.{needs}
+use Rattle.call_line.proofs.Chains.{begin, long-next, whole, broken}
+use Rattle.call_line.specs.Line.{releases, lineFrom, releaseLine}
+use Rattle.call_line.specs.Parsed.{parsedAs}
 use Rattle.call_line.proofs.parse.release_line.Statement.{statement}
 use Rattle.call_line.proofs.parse.release_line.Tie as tie
 
-long-at-requires : tie.Need-long-at-requires
-long-at-requires c κs = search needs
+add-long-after : tie.Need-add-long-after
+add-long-after c = search needs
 
-field-count-requires : tie.Need-field-count-requires
-field-count-requires c κs = search needs
+long-after-requires : tie.Need-long-after-requires
+long-after-requires c κs = search needs
+
+is-last-requires : tie.Need-is-last-requires
+is-last-requires c κs = search needs
 
 returns : tie.Need-returns
-unfolding told parsedAs
+unfolding lineFrom parsedAs releaseLine
 returns c =
-    let k = c .before .before in
-    let m = k .field-count in
-    let t = k .before .long-at in
-    let a = k .before .before .before .args in
-    release-told (a .line .now) (m .result) (m .ensures) true
-    (t .result)
-    (t .ensures) (c .if1 .taken)
+    let a = c .before .before .before .before .args in
+    (whole (a .newlines) (a .text .now) (a .at) (omega arith) (long-next (a .newlines) (a .text .now) (a .at) (omega arith) (c .before .before .long-after .result) (c .before .before .long-after .ensures) (begin (a .newlines) (a .text .now) (a .at) (omega arith) (λ t. releases t) (c .before .before .before .before .pre))) (sym (c .before .is-last .ensures) ∙ c .if1 .taken))
+
+bad-line-requires : tie.Need-bad-line-requires
+bad-line-requires c κs = search needs
 
 returns-2 : tie.Need-returns-2
-unfolding told parsedAs
+unfolding lineFrom releaseLine
 returns-2 c =
-    let k = c .before .before in
-    let m = k .field-count in
-    let t = k .before .long-at in
-    let a = k .before .before .before .args in
-    release-told (a .line .now) (m .result) (m .ensures) false
-    (t .result)
-    (t .ensures) (c .if1 .left)
+    let a = c .before .before .before .before .before .args in
+    c .bad-line .ensures ∙ broken (a .newlines) (a .text .now) (a .at) (omega arith) (long-next (a .newlines) (a .text .now) (a .at) (omega arith) (c .before .before .before .long-after .result) (c .before .before .before .long-after .ensures) (begin (a .newlines) (a .text .now) (a .at) (omega arith) (λ t. releases t) (c .before .before .before .before .before .pre))) (sym (c .before .before .is-last .ensures) ∙ c .before .if1 .left)
 
 pub release-line-spec : {M : Type 1} → statement M
-release-line-spec = tie.close (tie.spec long-at-requires field-count-requires returns returns-2)
+release-line-spec =
+    tie.close
+    (tie.spec
+    add-long-after
+    long-after-requires
+    is-last-requires
+    returns
+    bad-line-requires
+    returns-2)

@@ -1,29 +1,52 @@
 -- `call_line::parse::sample_line` meets its contract.
-use mathlib.Core.Path.{_∙_}
-use Rattle.store.specs.Records.{whatAs}
-use Rattle.call_line.proofs.Lines.{sample-told}
+use mathlib.Core.Path.{sym, _∙_}
+use native.Mathlib.Omega.{arith}
 use borrow.Author.Needs.{needs}
+use mir.ValLaws.{toZ-ofZ}
+use mir.Syntax.{w64}
+use Rattle.store.specs.Records.{whatAs}
+use Rattle.call_line.proofs.Chains.{long-next, sample-next, whole, broken}
+use Rattle.call_line.specs.Line.{lineFrom, sampleLine, offerLine}
+use Rattle.call_line.specs.Parsed.{parsedAs, offerOf}
 use Rattle.call_line.proofs.parse.sample_line.Statement.{statement}
 use Rattle.call_line.proofs.parse.sample_line.Tie as tie
 
-word-at-requires : tie.Need-word-at-requires
-word-at-requires c κs = search needs
+offer-at-requires : tie.Need-offer-at-requires
+offer-at-requires c κs = search needs
 
-long-at-requires : tie.Need-long-at-requires
-long-at-requires c κs = search needs
+word-after-requires : tie.Need-word-after-requires
+word-after-requires c κs = search needs
 
-offer-line-requires : tie.Need-offer-line-requires
-offer-line-requires c κs = search needs
+long-after-requires : tie.Need-long-after-requires
+long-after-requires c κs = search needs
+
+is-last-requires : tie.Need-is-last-requires
+is-last-requires c κs = search needs
 
 returns : tie.Need-returns
-unfolding whatAs
+unfolding lineFrom parsedAs sampleLine offerLine offerOf whatAs
 returns c =
-    let k = c .before in
-    let t = k .long-at in
-    let i = k .before .word-at in
-    let a = k .before .before .before .args in
-    c .offer-line .ensures ∙ sample-told (a .line .now) (i .result) (t .result) (i .ensures) (t .ensures)
+    let a = c .before .before .before .before .before .before .before .args in
+    rw (toZ-ofZ w64 (c .before .before .before .before .before .offer-at .result .number) (record { sfits = c .struct-told .given .1 .1 .1 .0 .1 }))
+    (whole (a .newlines) (a .text .now) (a .at) (omega arith) (long-next (a .newlines) (a .text .now) (a .at) (omega arith) (c .before .before .before .long-after .result) (c .before .before .before .long-after .ensures) (sample-next (a .newlines) (a .text .now) (a .at) (omega arith) (c .before .before .before .before .word-after .result) (c .before .before .before .before .word-after .ensures) (c .before .before .before .before .before .offer-at .ensures))) (sym (c .before .before .is-last .ensures) ∙ c .before .if1 .taken))
+
+bad-line-requires : tie.Need-bad-line-requires
+bad-line-requires c κs = search needs
+
+returns-2 : tie.Need-returns-2
+unfolding lineFrom sampleLine offerLine offerOf whatAs
+returns-2 c =
+    let a = c .before .before .before .before .before .before .before .args in
+    c .bad-line .ensures ∙ broken (a .newlines) (a .text .now) (a .at) (omega arith) (long-next (a .newlines) (a .text .now) (a .at) (omega arith) (c .before .before .before .long-after .result) (c .before .before .before .long-after .ensures) (sample-next (a .newlines) (a .text .now) (a .at) (omega arith) (c .before .before .before .before .word-after .result) (c .before .before .before .before .word-after .ensures) (c .before .before .before .before .before .offer-at .ensures))) (sym (c .before .before .is-last .ensures) ∙ c .before .if1 .left)
 
 pub sample-line-spec : {M : Type 1} → statement M
 sample-line-spec =
-    tie.close (tie.spec word-at-requires long-at-requires offer-line-requires returns)
+    tie.close
+    (tie.spec
+    offer-at-requires
+    word-after-requires
+    long-after-requires
+    is-last-requires
+    returns
+    bad-line-requires
+    returns-2)

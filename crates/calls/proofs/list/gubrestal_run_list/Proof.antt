@@ -4,7 +4,7 @@ use mathlib.Core.Path.{_≡_, refl}
 use native.Mathlib.Omega.{arith}
 use borrow.Author.Needs.{needs}
 use lib.ListN.{length}
-use Rattle.calls.proofs.Listing.{end-in, Left, left-first, left-none, left-next, left-last}
+use Rattle.calls.proofs.Listing.{Left, left-first, left-none, left-next, left-last, ran-at, end-is, end-within-text}
 use Rattle.calls.proofs.list.gubrestal_run_list.Statement.{statement}
 use Rattle.calls.proofs.list.gubrestal_run_list.Tie as tie
 
@@ -23,18 +23,6 @@ clear-requires c κs = search needs
 loop-holds : tie.Need-loop-holds Inv-loop μ-loop
 loop-holds c = (refl, left-first (c .before .before .before .new .ensures) (c .clear .ensures))
 
-field-end-requires : tie.Need-field-end-requires Inv-loop μ-loop
-field-end-requires c κs = search needs
-
-sub-run-on : tie.Need-sub-run-on Inv-loop μ-loop
-sub-run-on c = omega (arith, end-in (c .before .before .before .before .before .before .before .before .before .before .before .args .text .now) (c .before .before .before .before .loop .i))
-
-part-run-on-start : tie.Need-part-run-on-start Inv-loop μ-loop
-part-run-on-start c = omega (arith, end-in (c .before .before .before .before .before .before .before .before .before .before .before .args .text .now) (c .before .before .before .before .loop .i))
-
-part-run-on-end : tie.Need-part-run-on-end Inv-loop μ-loop
-part-run-on-end c = omega (arith, end-in (c .before .before .before .before .before .before .before .before .before .before .before .args .text .now) (c .before .before .before .before .loop .i))
-
 run-on-requires : tie.Need-run-on-requires Inv-loop μ-loop
 run-on-requires c κs = search needs
 
@@ -42,30 +30,16 @@ same-length : tie.Need-same-length Inv-loop μ-loop
 same-length c = search needs
 
 returns : tie.Need-returns Inv-loop μ-loop
-returns c =
-    left-last
-    (c .before .before .before .before .before .before .before .before .before .before .before .loop .inv .1)
-    (c .before .before .before .before .before .before .before .before .before .before .loop-test .taken)
-    (c .before .before .before .before .before .before .before .before .before .field-end .ensures)
-    (c .before .before .before .run-on .ensures)
-    (c .if1 .taken)
+returns c = left-last (c .before .before .before .before .before .before .before .before .before .before .loop .inv .1) (c .before .before .before .before .before .before .before .before .before .loop-test .taken) (end-is (c .before .before .before .before .before .before .before .before .before .before .before .before .before .before .before .before .before .args .text .now) (c .before .before .before .before .before .before .before .before .before .before .loop .i) (c .before .before .before .before .run-on .result .end) (c .before .before .before .before .run-on .ensures .1)) (ran-at (c .before .before .before .before .before .before .before .before .before .before .before .before .before .before .before .before .before .args .text .now) (c .before .before .before .before .before .before .before .before .before .before .loop .i) (c .before .before .before .before .run-on .result .end) (c .before .before .before .before .before .before .before .before .before .loop-test .taken) (c .before .before .before .before .run-on .ensures .1) (c .before .before .before .before .run-on .ensures .0)) (c .if1 .taken)
 
 add-i : tie.Need-add-i Inv-loop μ-loop
-add-i c = omega (arith, end-in (c .before .before .before .before .before .before .before .before .before .before .before .before .before .before .before .before .before .before .args .text .now) (c .before .before .before .before .before .before .before .before .before .before .before .loop .i))
+add-i c = omega (arith, end-within-text (c .before .before .before .before .before .before .before .before .before .before .before .before .before .before .before .before .before .before .args .text .now) (c .before .before .before .before .before .before .before .before .before .before .before .loop .i) (c .before .before .before .before .before .run-on .result .end) (c .before .before .before .before .before .before .before .before .before .before .loop-test .taken) (c .before .before .before .before .before .run-on .ensures .1))
 
 loop-less : tie.Need-loop-less Inv-loop μ-loop
-loop-less c = omega (arith, end-in (c .before .before .before .before .before .before .before .before .before .before .before .before .before .before .before .before .before .before .args .text .now) (c .before .before .before .before .before .before .before .before .before .before .before .loop .i))
+loop-less c = omega (arith, end-within-text (c .before .before .before .before .before .before .before .before .before .before .before .before .before .before .before .before .before .before .args .text .now) (c .before .before .before .before .before .before .before .before .before .before .before .loop .i) (c .before .before .before .before .before .run-on .result .end) (c .before .before .before .before .before .before .before .before .before .before .loop-test .taken) (c .before .before .before .before .before .run-on .ensures .1))
 
 loop-again : tie.Need-loop-again Inv-loop μ-loop
-loop-again c = (
-  search needs,
-  left-next
-      (c .before .before .before .before .before .before .before .before .before .before .before .loop .inv .1)
-      (c .before .before .before .before .before .before .before .before .before .before .loop-test .taken)
-      (c .before .before .before .before .before .before .before .before .before .field-end .ensures)
-      (c .before .before .before .run-on .ensures)
-      (omega (arith, end-in (c .before .before .before .before .before .before .before .before .before .before .before .before .before .before .before .before .before .before .args .text .now) (c .before .before .before .before .before .before .before .before .before .before .before .loop .i))),
-)
+loop-again c = (search needs, left-next (c .before .before .before .before .before .before .before .before .before .before .before .loop .inv .1) (c .before .before .before .before .before .before .before .before .before .before .loop-test .taken) (end-is (c .before .before .before .before .before .before .before .before .before .before .before .before .before .before .before .before .before .before .args .text .now) (c .before .before .before .before .before .before .before .before .before .before .before .loop .i) (c .before .before .before .before .before .run-on .result .end) (c .before .before .before .before .before .run-on .ensures .1)) (ran-at (c .before .before .before .before .before .before .before .before .before .before .before .before .before .before .before .before .before .before .args .text .now) (c .before .before .before .before .before .before .before .before .before .before .before .loop .i) (c .before .before .before .before .before .run-on .result .end) (c .before .before .before .before .before .before .before .before .before .before .loop-test .taken) (c .before .before .before .before .before .run-on .ensures .1) (c .before .before .before .before .before .run-on .ensures .0)) (omega (arith, end-within-text (c .before .before .before .before .before .before .before .before .before .before .before .before .before .before .before .before .before .before .args .text .now) (c .before .before .before .before .before .before .before .before .before .before .before .loop .i) (c .before .before .before .before .before .run-on .result .end) (c .before .before .before .before .before .before .before .before .before .before .loop-test .taken) (c .before .before .before .before .before .run-on .ensures .1))))
 
 same-length-2 : tie.Need-same-length-2 Inv-loop μ-loop
 same-length-2 c = search needs
@@ -82,10 +56,6 @@ gubrestal-run-list-spec =
     new-requires
     clear-requires
     loop-holds
-    field-end-requires
-    sub-run-on
-    part-run-on-start
-    part-run-on-end
     run-on-requires
     same-length
     returns

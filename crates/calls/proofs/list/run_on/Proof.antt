@@ -1,3 +1,8 @@
+use Rattle.calls.proofs.Running.{ran-line}
+use Rattle.call_line.specs.Line.{Line, lineFrom}
+use mathlib.Core.Option.{Option}
+use mathlib.Core.Path.{ap}
+use Prim.Native.Nat.{ℕ}
 -- `calls::list::run_on` meets its contract.
 use mathlib.Core.Path.{sym}
 use borrow.Author.Needs.{needs}
@@ -6,12 +11,15 @@ use Rattle.calls.proofs.Listing.{ran-long, ran-on}
 use Rattle.calls.proofs.list.run_on.Statement.{statement}
 use Rattle.calls.proofs.list.run_on.Tie as tie
 
-run-line-requires : tie.Need-run-line-requires
-run-line-requires c κs = search needs
+parse-at-requires : tie.Need-parse-at-requires
+parse-at-requires c κs = search needs
+
+run-parsed-requires : tie.Need-run-parsed-requires
+run-parsed-requires c κs = search needs
 
 slice-aggregate-put-bytes : tie.Need-slice-aggregate-put-bytes
 slice-aggregate-put-bytes c =
-    let l = c .before .before .before .before .run-line in sym (length-take-le (l .result) (l .last .1 .1 .1 .0) (ran-long (l .ensures)))
+    let l = c .before .before .before .before .run-parsed in sym (length-take-le (l .result) (l .last .1 .1 .1 .0) (ran-long (l .ensures)))
 
 put-bytes-requires : tie.Need-put-bytes-requires
 put-bytes-requires c κs = search needs
@@ -26,17 +34,15 @@ same-length : tie.Need-same-length
 same-length c = search needs
 
 returns : tie.Need-returns
-returns c =
-    ran-on
-    (c .before .before .before .before .before .before .before .before .before .before .before .before .run-line .ensures)
-    (c .before .before .before .before .before .before .before .put-bytes .ensures)
-    (c .before .before .put-bytes2 .ensures)
+unfolding lineFrom
+returns c = (ran-on (ran-line (ap (λ (p : Option Line × ℕ). p .0) (c .before .before .before .before .before .before .before .before .before .before .before .before .before .before .before .before .parse-at .ensures)) (c .before .before .before .before .before .before .before .before .before .before .before .before .run-parsed .ensures)) (c .before .before .before .before .before .before .before .put-bytes .ensures) (c .before .before .put-bytes2 .ensures), ap (λ (p : Option Line × ℕ). p .1) (c .before .before .before .before .before .before .before .before .before .before .before .before .before .before .before .before .parse-at .ensures))
 
 pub run-on-spec : {M : Type 1} → statement M
 run-on-spec =
     tie.close
     (tie.spec
-    run-line-requires
+    parse-at-requires
+    run-parsed-requires
     slice-aggregate-put-bytes
     put-bytes-requires
     slice-aggregate-put-bytes-2

@@ -3,7 +3,7 @@ use mathlib.Core.Path.{refl}
 use native.Mathlib.Omega.{arith}
 use borrow.Author.Needs.{needs}
 use Rattle.rules.specs.Offer as O
-use Rattle.history.specs.Calls.{gapAs, toldAs}
+use Rattle.offers.specs.Calls.{gapAs, toldAs}
 use Rattle.calls.specs.Run.{doneText, runCall}
 use Rattle.call_line.specs.Line.{gaps}
 use Rattle.calls.proofs.Running.{ran-history, ran-as, done-long}

@@ -3,7 +3,7 @@ use mathlib.Core.Path.{refl}
 use native.Mathlib.Omega.{arith}
 use borrow.Author.Needs.{needs}
 use Rattle.rules.specs.Offer as O
-use Rattle.history.specs.Calls.{heartbeatAs, toldAs}
+use Rattle.offers.specs.Calls.{heartbeatAs, toldAs}
 use Rattle.calls.specs.Run.{doneText, runCall}
 use Rattle.call_line.specs.Line.{heartbeats}
 use Rattle.calls.proofs.Running.{ran-history, ran-as, done-long}

@@ -3,7 +3,7 @@ use mathlib.Core.Path.{refl}
 use native.Mathlib.Omega.{arith}
 use borrow.Author.Needs.{needs}
 use Rattle.rules.specs.Offer as O
-use Rattle.history.specs.Calls.{offerAs, offeredAs}
+use Rattle.offers.specs.Calls.{offerAs, offeredAs}
 use Rattle.calls.specs.Run.{offerText, runCall}
 use Rattle.call_line.specs.Line.{offers}
 use Rattle.calls.proofs.Running.{ran-history, ran-as, offer-long}

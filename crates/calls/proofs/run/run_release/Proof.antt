@@ -6,10 +6,10 @@ use native.Mathlib.Omega.{arith}
 use borrow.Author.Needs.{needs}
 use lib.ListN.{length, take, replicate}
 use lib.Seq.{length-take-le}
-use Rattle.laws.specs.Answer.{Answer, refused, answered}
+use Rattle.laws.specs.Answer.{Answer, refused, answered, Kept}
 use Rattle.rules.specs.State.{State}
 use Rattle.store.specs.Store.{stateOf}
-use Rattle.release.specs.Released.{releasedAs, releaseNoted, Kept}
+use Rattle.release.specs.Released.{releasedAs, releaseNoted}
 use Rattle.calls.proofs.Releasing.{wrote-within, ran-released, ran-refused}
 use Rattle.calls.proofs.run.run_release.Statement.{statement}
 use Rattle.calls.proofs.run.run_release.Tie as tie

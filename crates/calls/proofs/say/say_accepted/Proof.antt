@@ -1,7 +1,7 @@
 -- `calls::say::say_accepted` meets its contract.
 use mathlib.Core.Path.{ap}
 use borrow.Author.Needs.{needs}
-use Rattle.history.specs.Calls.{toldAs}
+use Rattle.offers.specs.Calls.{toldAs}
 use Rattle.calls.specs.Run.{doneText}
 use Rattle.calls.proofs.Saying.{said-as}
 use Rattle.calls.proofs.say.say_accepted.Statement.{statement}

@@ -1,7 +1,7 @@
 -- `calls::say::say_offered` meets its contract.
 use mathlib.Core.Path.{ap}
 use borrow.Author.Needs.{needs}
-use Rattle.history.specs.Calls.{offeredAs}
+use Rattle.offers.specs.Calls.{offeredAs}
 use Rattle.calls.specs.Run.{offerText}
 use Rattle.calls.proofs.Saying.{said, said-as}
 use Rattle.calls.proofs.say.say_offered.Statement.{statement}

@@ -21,7 +21,7 @@ is-malformed-requires : tie.Need-is-malformed-requires
 is-malformed-requires c κs = search needs
 
 returns : tie.Need-returns
-unfolding Rattle.release.specs.Released.releasedAs Rattle.release.specs.Released.Kept
+unfolding Rattle.release.specs.Released.releasedAs Rattle.laws.specs.Answer.Kept
 returns c =
     let a = c .before .before .before .args in
     (sym (noted-malformed (a .view .now) (stateOf (a .store .now)) (a .time) (a .out .now) (sym (c .before .is-malformed .ensures) ∙ c .if1 .taken)), refl)
@@ -44,7 +44,7 @@ fits-in c h =
     subst (λ m. Fit (spot (a .store .now) m (a .out .now) 0)) (sym (c .before .before .entry-count .ensures)) (fit-all (a .store .now) (a .out .now) (omega (arith, c .sample-count .ensures, h)))
 
 returns-2 : tie.Need-returns-2
-unfolding Rattle.release.specs.Released.releasedAs Rattle.release.specs.Released.Kept
+unfolding Rattle.release.specs.Released.releasedAs Rattle.laws.specs.Answer.Kept
 returns-2 c =
     let k = c .before in
     let a = k .before .before .before .before .before .before .before .args in
@@ -72,7 +72,7 @@ same-length : tie.Need-same-length
 same-length c = search needs
 
 returns-3 : tie.Need-returns-3
-unfolding Rattle.release.specs.Released.releasedAs Rattle.release.specs.Released.Kept
+unfolding Rattle.release.specs.Released.releasedAs Rattle.laws.specs.Answer.Kept
 returns-3 c =
     let r = c .before .before .before .before .before .before in
     let k = r .before .before .before .before in

@@ -2,7 +2,7 @@
 use mathlib.Core.Path.{_≡_}
 use mir.Val.{toZ, ofZ}
 use mir.Syntax.{w64}
-use Rattle.history.specs.Calls.{offerAs}
+use Rattle.offers.specs.Calls.{offerAs}
 use Rattle.turn.specs.Items.{offerBy}
 use borrow.Author.Needs.{needs}
 use Rattle.turn.proofs.items.offer_by.Statement.{statement}

@@ -1,6 +1,6 @@
 -- `turn::items::offer_item` meets its contract: the history's offer under the item's group; an item without group information is given back.
 use mathlib.Core.Path.{refl}
-use Rattle.history.specs.Calls.{offerAs, offeredAs}
+use Rattle.offers.specs.Calls.{offerAs, offeredAs}
 use Rattle.store.specs.Store.{stateOf}
 use Rattle.turn.specs.Items.{offerOf, orderedAs, OfferKept}
 use Rattle.turn.proofs.ItemLaws.{offer-plain, offer-taken, offer-unnamed, offer-named}

@@ -5,7 +5,7 @@ use lib.Signed.{ltZ}
 use lib.IntN.{pos}
 use mir.Val.{toZ, ofZ}
 use mir.Syntax.{w64}
-use Rattle.history.specs.Calls.{toldAs, gapAs}
+use Rattle.offers.specs.Calls.{toldAs, gapAs}
 use Rattle.store.specs.Store.{stateOf}
 use Rattle.turn.proofs.TurnLaws.{gap-done, gap-none}
 use borrow.Author.Needs.{needs}

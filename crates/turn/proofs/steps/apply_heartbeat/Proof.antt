@@ -2,7 +2,7 @@
 use mathlib.Core.Path.{_≡_}
 use mir.Val.{toZ, ofZ}
 use mir.Syntax.{w64}
-use Rattle.history.specs.Calls.{toldAs, heartbeatAs}
+use Rattle.offers.specs.Calls.{toldAs, heartbeatAs}
 use Rattle.store.specs.Store.{stateOf}
 use Rattle.turn.proofs.TurnLaws.{beat-done, beat-none}
 use borrow.Author.Needs.{needs}

@@ -1,8 +1,8 @@
 -- `turn::steps::release_counted` meets its contract: a release, and the counts before and after it.
 use Prim.{tt}
-use mathlib.Core.Path.{_≡_, refl, sym, ap, _∙_}
-use Rattle.laws.specs.Answer.{answered, refused}
-use Rattle.release.specs.Released.{releasedAs, releaseNoted, Kept}
+use mathlib.Core.Path.{_≡_, sym, ap, _∙_}
+use Rattle.laws.specs.Answer.{answered, refused, Kept}
+use Rattle.release.specs.Released.{releasedAs, releaseNoted}
 use Rattle.readings.specs.Counts.{countsAs}
 use Rattle.store.specs.Store.{stateOf}
 use Rattle.turn.specs.Turn.{turnAs, TurnKept, since}

@@ -1,7 +1,7 @@
 -- `call_line::line::LineGap::gap` meets its contract.
 use mir.Syntax.{w64}
 use mir.ValLaws.{toZ-ofZ}
-use Rattle.history.specs.Calls.{gapAs}
+use Rattle.offers.specs.Calls.{gapAs}
 use Rattle.call_line.specs.Parsed.{gapOf}
 use borrow.Author.Needs.{needs}
 use Rattle.call_line.proofs.line.LineGap.gap.Statement.{statement}

@@ -1,7 +1,7 @@
 -- `call_line::line::LineHeartbeat::heartbeat` meets its contract.
 use mir.Syntax.{w64}
 use mir.ValLaws.{toZ-ofZ}
-use Rattle.history.specs.Calls.{heartbeatAs}
+use Rattle.offers.specs.Calls.{heartbeatAs}
 use Rattle.call_line.specs.Parsed.{heartbeatOf}
 use borrow.Author.Needs.{needs}
 use Rattle.call_line.proofs.line.LineHeartbeat.heartbeat.Statement.{statement}

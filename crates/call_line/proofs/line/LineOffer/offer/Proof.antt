@@ -1,7 +1,7 @@
 -- `call_line::line::LineOffer::offer` meets its contract.
 use mir.Syntax.{w64}
 use mir.ValLaws.{toZ-ofZ}
-use Rattle.history.specs.Calls.{offerAs}
+use Rattle.offers.specs.Calls.{offerAs}
 use Rattle.call_line.specs.Parsed.{offerOf}
 use borrow.Author.Needs.{needs}
 use Rattle.call_line.proofs.line.LineOffer.offer.Statement.{statement}

@@ -62,7 +62,8 @@ use contract.Monad.{factI}
 use types.Kit.{Step, step, prop}
 use Rattle.store.specs.Store.{stateOf}
 use Rattle.group_view.specs.View.{Noted, NotedDigest, Steps, rowsAs}
-use Rattle.release.specs.Released.{releasedAs, releaseNoted, releaseTo, Kept}
+use Rattle.laws.specs.Answer.{Kept}
+use Rattle.release.specs.Released.{releasedAs, releaseNoted, releaseTo}
 use Rattle.history.proofs.Noting.{release-said}
 use Rattle.group_view.specs.declared.view.Pair.{Pair}
 use Rattle.group_view.proofs.view.Pair as Pair-T

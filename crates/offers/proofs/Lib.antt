@@ -1,0 +1,4 @@
+pub mod Accepting
+pub mod Appending
+pub mod Joined
+pub mod Telling
