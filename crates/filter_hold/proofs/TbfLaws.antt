@@ -12,13 +12,15 @@ use lib.Signed.{ltZ, nonNeg}
 use lib.ListN.{length, take, drop, set, getD, length-append, length-take}
 use lib.Seq.{take-suc, take-set-lt, drop-cons, set-at, getD-take, length-take-le}
 use mir.Syntax.{w32}
-use mir.Val.{SFits}
+use mir.Val.{SFits, toZ, ofZ}
+use mir.Facts.{toZ-ofZ}
 use Rattle.laws.specs.Lists.{keep, any}
 use Rattle.laws.proofs.Lists.{keep-fewer, keep-none, length-split, not-both}
 use Rattle.laws.proofs.Places.{Shifted, shifted-more, shifted-put}
+use Rattle.filter_hold.specs.declared.tbf.Carried.{Carried}
 use Rattle.filter_hold.specs.declared.tbf.Held.{Held}
 use Rattle.filter_hold.specs.declared.tbf.TbfHold.{TbfHold}
-use Rattle.filter_hold.specs.Tbf.{fromZero, timeOf, words, written, isOf, supersede, holdAs}
+use Rattle.filter_hold.specs.Tbf.{fromZero, timeOf, wholeSeconds, words, written, isOf, supersede, holdAs}
 
 -- what the code reads past an array's end
 abbrev pub free : Held
@@ -35,18 +37,34 @@ pub whole-from : (z : ℤ) → ltZ z (pos 0) ≡ false → T (nonNeg z) × (natA
 whole-from (pos n) e = (tt, refl)
 whole-from (negsuc n) e = not-both true refl e
 
-pub from-zero-small : (z : ℤ) → SFits w32 z → fromZero z < 2147483648
+from-zero-small : (z : ℤ) → SFits w32 z → fromZero z < 2147483648
 from-zero-small (pos n) f = omega (arith, f .sfits)
 from-zero-small (negsuc n) f = omega arith
 
+-- what a second of 32 bits counts from 0
+pub from-fits : (z : ℤ) (n : ℕ) → SFits w32 z → n ≡ fromZero (toZ w32 (ofZ w32 z)) → (n ≡ fromZero z) × (n < 2147483648)
+from-fits z n f e =
+    let g : n ≡ fromZero z = e ∙ ap (λ y. fromZero y) (toZ-ofZ f) in
+    (g, omega (arith, from-zero-small z f))
+
 -- seconds and nanoseconds below one second, together a number of nanoseconds
-pub time-split : (s r total : ℕ) → r < 1000000000 → s * 1000000000 + r ≡ total
-    → timeOf total ≡ record { sec = pos (min s 2147483647); nanosec = r }
-unfolding timeOf
-time-split s r total h e =
-    let q : total / 1000000000 ≡ s = omega arith in
-    let m : total % 1000000000 ≡ r = omega arith in
+pub seconds-split : (s r n : ℕ) → r < 1000000000 → s * 1000000000 + r ≡ n → wholeSeconds n ≡ record { sec = s; nanosec = r }
+unfolding wholeSeconds
+seconds-split s r n h e =
+    let q : n / 1000000000 ≡ s = omega arith in
+    let m : n % 1000000000 ≡ r = omega arith in
     rw (q, m)
+
+pub time-split : (s r n : ℕ) → r < 1000000000 → s * 1000000000 + r ≡ n → timeOf n ≡ record { sec = pos (min s 2147483647); nanosec = r }
+unfolding timeOf wholeSeconds
+time-split s r n h e = ap (λ (c : Carried). record { sec = pos (min (c .sec) 2147483647); nanosec = c .nanosec }) (seconds-split s r n h e)
+
+pub seconds-joined : (n : ℕ) (c : Carried) → c ≡ wholeSeconds n → (c .sec * 1000000000 + c .nanosec ≡ n) × (c .nanosec < 1000000000)
+unfolding wholeSeconds
+seconds-joined n c e =
+    let q : c .sec ≡ n / 1000000000 = ap (λ x. x .sec) e in
+    let m : c .nanosec ≡ n % 1000000000 = ap (λ x. x .nanosec) e in
+    (omega arith, omega arith)
 
 -- ---- the first n of an array
 

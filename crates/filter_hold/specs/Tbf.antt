@@ -13,6 +13,7 @@ use Rattle.laws.specs.Whole.{eqZ}
 use Rattle.laws.specs.Lists.{keep, all, any, indexOf}
 use Rattle.filter_hold.specs.declared.tbf.Time.{Time}
 use Rattle.filter_hold.specs.declared.tbf.Separation.{Separation}
+use Rattle.filter_hold.specs.declared.tbf.Carried.{Carried}
 use Rattle.filter_hold.specs.declared.tbf.Held.{Held}
 use Rattle.filter_hold.specs.declared.tbf.TbfHold.{TbfHold}
 use Rattle.filter_hold.specs.declared.tbf.HoldAnswer.{HoldAnswer}
@@ -42,6 +43,10 @@ timeOf total = record { sec = pos (min (total / 1000000000) 2147483647); nanosec
 -- at + separation, in whole nanoseconds
 unfoldable pub timeAfter : Time → Separation → Time
 timeAfter at s = timeOf (fromZero (at .sec) * 1000000000 + at .nanosec + (s .sec * 1000000000 + s .nanosec))
+
+-- whole seconds, and the nanoseconds left
+unfoldable pub wholeSeconds : ℕ → Carried
+wholeSeconds n = record { sec = n / 1000000000; nanosec = n % 1000000000 }
 
 -- ---- what is held: at most one sample of an instance, in the order of the instances
 

@@ -6,7 +6,7 @@ ghost use lib.Dec.{eqb};
 ghost use lib.ListN.{length};
 ghost use Rattle.laws.specs.Answer.{Kept};
 ghost use Rattle.laws.specs.Lists.{keep, indexOf};
-ghost use Rattle.filter_hold.specs.Tbf.{fromZero, timeAfter, notAfter, holdAs, follows, insert, supersede, freshHold, cleared, holdAnswerAs, holdingAs, hold, written, dueAnswerAs, takingAs, takeDue, askedFor, HeldCount};
+ghost use Rattle.filter_hold.specs.Tbf.{fromZero, timeAfter, wholeSeconds, notAfter, holdAs, follows, insert, supersede, freshHold, cleared, holdAnswerAs, holdingAs, hold, written, dueAnswerAs, takingAs, takeDue, askedFor, HeldCount};
 
 // Signed seconds and nanoseconds.
 pub struct Time {
@@ -24,16 +24,37 @@ pub struct Separation {
 pub fn time_after(at: Time, separation: Separation) -> Time
     ensures { λ r. ⌜ r ≡ timeAfter at separation ⌝ }
 {
-    let mut sec = not_negative(at.sec) + separation.sec as u64;
-    let mut nanosec = at.nanosec as u64 + separation.nanosec as u64;
-    while 1000000000 <= nanosec {
-        nanosec -= 1000000000;
-        sec += 1;
-    }
+    // A separation that `hold` takes has no whole second in its nanoseconds.
+    let own = carry(separation.nanosec as u64);
+    let sum = carry(at.nanosec as u64 + own.nanosec);
+    let sec = not_negative(at.sec) + separation.sec as u64 + own.sec + sum.sec;
     Time {
         sec: stopped(sec),
-        nanosec: nanosec as u32,
+        nanosec: sum.nanosec as u32,
     }
+}
+
+// Nanoseconds as whole seconds and the nanoseconds left.
+struct Carried {
+    sec: u64,
+    nanosec: u64,
+}
+
+// By comparing and subtracting: no division (request U6). At most five seconds are whole in a nanosecond field and less than a second.
+fn carry(nanosec: u64) -> Carried
+    requires { ⌜ nanosec ≤ 5294967294 ⌝ }
+    ensures { λ r. ⌜ r ≡ wholeSeconds nanosec ⌝ }
+{
+    let mut sec: u64 = 0;
+    let mut left = nanosec;
+    while sec < 5 {
+        if left < 1000000000 {
+            return Carried { sec, nanosec: left };
+        }
+        left -= 1000000000;
+        sec += 1;
+    }
+    Carried { sec, nanosec: left }
 }
 
 fn not_negative(sec: i32) -> u64

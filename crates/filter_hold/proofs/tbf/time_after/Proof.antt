@@ -1,95 +1,94 @@
--- `tbf::time_after` meets its contract. The loop: seconds and nanoseconds make up the same number of nanoseconds.
-use mir.Val.{toZ, ofZ, SFits}
-use Prim.Native.Nat.{_+_, _*_, _<_}
+-- `tbf::time_after` meets its contract: what is carried out of the nanoseconds, in seconds, and what is left make up the same number of nanoseconds.
+use mathlib.Core.Path.{_≡_, sym, ap, _∙_}
 use mir.Syntax.{w32}
-use mathlib.Core.Path.{_∙_, ap, sym, refl, _≡_}
-use mir.Facts.{toZ-ofZ}
+use mir.Val.{toZ, ofZ, SFits}
 use native.Mathlib.Omega.{arith}
 use borrow.Author.Needs.{needs}
-use Rattle.filter_hold.specs.Tbf.{timeAfter, fromZero}
-use Rattle.filter_hold.proofs.TbfLaws.{from-zero-small, time-split}
+use Rattle.filter_hold.specs.Tbf.{timeAfter}
+use Rattle.filter_hold.proofs.TbfLaws.{from-fits, time-split, seconds-joined}
 use Rattle.filter_hold.proofs.tbf.time_after.Statement.{statement}
 use Rattle.filter_hold.proofs.tbf.time_after.Tie as tie
 
-abbrev Inv-loop : tie.InvT-loop
-Inv-loop sec₀ nanosec₀ sec nanosec = (sec * 1000000000 + nanosec ≡ sec₀ * 1000000000 + nanosec₀) × (sec₀ < 6442450944) × (nanosec₀ < 8589934592)
+cast-carry : tie.Need-cast-carry
+cast-carry c = search needs
 
-abbrev μ-loop : tie.MeasureT-loop
-μ-loop sec₀ nanosec₀ sec nanosec = nanosec
+carry-requires : tie.Need-carry-requires
+carry-requires c κs = search needs
 
-not-negative-requires : tie.Need-not-negative-requires Inv-loop μ-loop
+cast-carry-2 : tie.Need-cast-carry-2
+cast-carry-2 c = search needs
+
+add-carry : tie.Need-add-carry
+add-carry c =
+    let o = seconds-joined _ _ (c .before .before .carry .ensures) in
+    omega (arith, o .1)
+
+carry-requires-2 : tie.Need-carry-requires-2
+carry-requires-2 c κs =
+    let o = seconds-joined _ _ (c .before .before .carry .ensures) in
+    omega (arith, o .1)
+
+not-negative-requires : tie.Need-not-negative-requires
 not-negative-requires c κs = search needs
 
-cast-sec : tie.Need-cast-sec Inv-loop μ-loop
+cast-sec : tie.Need-cast-sec
 cast-sec c = search needs
 
-add-sec : tie.Need-add-sec Inv-loop μ-loop
+add-sec : tie.Need-add-sec
 add-sec c =
-    let a = c .before .before .before .args in
-    let f : SFits w32 (a .at .sec) = search needs in
-    let e : c .before .not-negative .result ≡ fromZero (a .at .sec) = c .before .not-negative .ensures ∙ ap (λ z. fromZero z) (toZ-ofZ f) in
-    omega (arith, from-zero-small (a .at .sec) f)
+    let f : SFits w32 (c .before .before .before .before .before .before .before .before .args .at .sec) = search needs in
+    let n = from-fits _ _ f (c .before .not-negative .ensures) in
+    omega (arith, n .1)
 
-cast-nanosec : tie.Need-cast-nanosec Inv-loop μ-loop
-cast-nanosec c = search needs
+add-sec-2 : tie.Need-add-sec-2
+add-sec-2 c =
+    let f : SFits w32 (c .before .before .before .before .before .before .before .before .before .args .at .sec) = search needs in
+    let n = from-fits _ _ f (c .before .before .not-negative .ensures) in
+    let o = seconds-joined _ _ (c .before .before .before .before .before .before .before .carry .ensures) in
+    omega (arith, n .1, o .0)
 
-cast-nanosec-2 : tie.Need-cast-nanosec-2 Inv-loop μ-loop
-cast-nanosec-2 c = search needs
+add-sec-3 : tie.Need-add-sec-3
+add-sec-3 c =
+    let f : SFits w32 (c .before .before .before .before .before .before .before .before .before .before .args .at .sec) = search needs in
+    let n = from-fits _ _ f (c .before .before .before .not-negative .ensures) in
+    let o = seconds-joined _ _ (c .before .before .before .before .before .before .before .before .carry .ensures) in
+    let p = seconds-joined _ _ (c .before .before .before .before .before .carry2 .ensures) in
+    omega (arith, n .1, o .0, o .1, p .0)
 
-add-nanosec : tie.Need-add-nanosec Inv-loop μ-loop
-add-nanosec c = search needs
-
-loop-holds : tie.Need-loop-holds Inv-loop μ-loop
-loop-holds c =
-    let a = c .before .before .before .before .before .args in
-    let n = c .before .before .before .not-negative in
-    let f : SFits w32 (a .at .sec) = search needs in
-    let e : n .result ≡ fromZero (a .at .sec) = n .ensures ∙ ap (λ z. fromZero z) (toZ-ofZ f) in
-    (refl, omega (arith, from-zero-small (a .at .sec) f), search needs)
-
-add-sec-2 : tie.Need-add-sec-2 Inv-loop μ-loop
-add-sec-2 c = search needs
-
-loop-less : tie.Need-loop-less Inv-loop μ-loop
-loop-less c = search needs
-
-loop-again : tie.Need-loop-again Inv-loop μ-loop
-loop-again c = search needs
-
-stopped-requires : tie.Need-stopped-requires Inv-loop μ-loop
+stopped-requires : tie.Need-stopped-requires
 stopped-requires c κs = search needs
 
-cast-t9 : tie.Need-cast-t9 Inv-loop μ-loop
-cast-t9 c = search needs
+cast-t11 : tie.Need-cast-t11
+cast-t11 c =
+    let p = seconds-joined _ _ (c .before .before .before .before .before .before .before .carry2 .ensures) in
+    omega (arith, p .1)
 
-returns : tie.Need-returns Inv-loop μ-loop
+returns : tie.Need-returns
 unfolding timeAfter
 returns c =
-    let a = c .before .before .before .before .before .before .before .before .args in
-    let n = c .before .before .before .before .before .before .not-negative in
-    let s = c .before .before .loop in
+    let a = c .before .before .before .before .before .before .before .before .before .before .before .before .args in
     let f : SFits w32 (a .at .sec) = search needs in
-    let e : n .result ≡ fromZero (a .at .sec) = n .ensures ∙ ap (λ z. fromZero z) (toZ-ofZ f) in
-    let z : toZ w32 (ofZ w32 (c .stopped .result)) ≡ c .stopped .result = search needs in
-    ap (λ z. record { sec = z; nanosec = s .nanosec }) (z ∙ c .stopped .ensures)
-    ∙ sym (time-split (s .sec) (s .nanosec) _ (omega arith) (omega (arith, s .inv .0)))
+    let n = from-fits _ _ f (c .before .before .before .before .before .not-negative .ensures) in
+    let o = seconds-joined _ _ (c .before .before .before .before .before .before .before .before .before .before .carry .ensures) in
+    let p = seconds-joined _ _ (c .before .before .before .before .before .before .before .carry2 .ensures) in
+    let z : toZ w32 (ofZ w32 (c .before .stopped .result)) ≡ c .before .stopped .result = search needs in
+    ap (λ z. record { sec = z; nanosec = c .before .before .before .before .before .before .before .carry2 .result .nanosec }) (z ∙ c .before .stopped .ensures)
+    ∙ sym (time-split _ (c .before .before .before .before .before .before .before .carry2 .result .nanosec) _ (p .1) (omega (arith, n .0, o .0, p .0)))
 
 pub time-after-spec : {M : Type 1} → statement M
 time-after-spec =
     tie.close
     (tie.spec
-    Inv-loop
-    μ-loop
+    cast-carry
+    carry-requires
+    cast-carry-2
+    add-carry
+    carry-requires-2
     not-negative-requires
     cast-sec
     add-sec
-    cast-nanosec
-    cast-nanosec-2
-    add-nanosec
-    loop-holds
     add-sec-2
-    loop-less
-    loop-again
+    add-sec-3
     stopped-requires
-    cast-t9
+    cast-t11
     returns)
