@@ -5,6 +5,7 @@ use crate::gate::{self, Gate};
 use crate::lists::{self, Line};
 use crate::replay::{self, Replay, WithFigures, LIMITS_WALK, LIST_WALK};
 use crate::scopes::{self, Scopes};
+use crate::settings::{self, Settings};
 use crate::tbf::{self, Tbf};
 use crate::turn::{self, Turn};
 
@@ -23,7 +24,7 @@ pub(crate) struct Kind {
     pub list: fn(u64, u64, bool) -> Vec<Line>,
 }
 
-const KINDS: [Kind; 6] = [
+const KINDS: [Kind; 7] = [
     Kind {
         name: "call-list",
         lines: 1,
@@ -65,6 +66,13 @@ const KINDS: [Kind; 6] = [
         fresh: || Box::new(Scopes::new()),
         limits: scopes::limits,
         list: |seed, index, _| scopes::list(seed, index, LENGTH),
+    },
+    Kind {
+        name: "settings",
+        lines: 1,
+        fresh: || Box::new(Settings::default()),
+        limits: settings::limits,
+        list: |seed, index, _| settings::list(seed, index, LENGTH),
     },
 ];
 

@@ -29,5 +29,6 @@ pub mod kinds;
 pub mod lists;
 pub mod replay;
 pub mod scopes;
+pub mod settings;
 pub mod tbf;
 pub mod turn;

@@ -1,0 +1,5 @@
+pub mod Layout
+pub mod Bits
+pub mod Setting
+pub mod Store
+pub mod Durations

@@ -1,0 +1,3 @@
+fn main() {
+    oracle::replay::main(oracle::settings::Settings::default());
+}
