@@ -6,7 +6,6 @@ use Rattle.std.specs.Int.{w32}
 use Rattle.std.proofs.Common.{of_z, to_z}
 use Rattle.laws.specs.Bytes.{bytes_of, number_of}
 use Rattle.laws.specs.Answer.{Answer, refused, answered}
-use Rattle.coherent_set.specs.declared.CoherentSetMarker.{CoherentSetMarker}
 use Rattle.coherent_set.specs.declared.Decoded.{Decoded}
 use Rattle.coherent_set.specs.declared.Decoded.TheVariants.{Marker, NotEightBytes}
 

@@ -5,7 +5,6 @@ use Rattle.std.specs.Prelude.{Bool, true, false, cond, ℤ, negsuc}
 use Rattle.std.proofs.Math.Option.{Option, some, none}
 use Rattle.laws.specs.Answer.{Answer, refused, answered}
 use Rattle.laws.specs.Whole.{eq_z}
-use Rattle.coherent_set.specs.declared.CoherentSetMarker.{CoherentSetMarker}
 use Rattle.coherent_set.specs.declared.CoherentScope.{CoherentScope}
 use Rattle.coherent_set.specs.declared.CurrentMarker.{CurrentMarker}
 use Rattle.coherent_set.specs.declared.CurrentMarker.TheVariants.{Marker, Nothing}

@@ -1,4 +1,6 @@
 // Coherent sets and group access: coherent_set.rs of the source, and PreconditionNotMet of its error.rs.
+#![tactic(auto)]
+
 ghost use Rattle.std.specs.Prelude.{◌≡◌, ◌≤◌, length, negsuc};
 ghost use Rattle.std.specs.Int.{w64};
 ghost use Rattle.std.proofs.Common.{of_z, to_z};
@@ -8,13 +10,13 @@ ghost use Rattle.coherent_set.specs.Scope.{fresh_scope, active_scope, marker_of,
 ghost use Rattle.coherent_set.specs.Access.{fresh_access, open_access, begin_access, end_access, access_ended_as};
 
 // The wire form of PID_COHERENT_SET: the number of the set's first sample.
-#[derive(Drop)]
+#[derive(Clone, Copy)]
 pub struct CoherentSetMarker {
     pub set_first_sn: i64,
 }
 
 // What a marker's bytes decode to.
-#[derive(Drop)]
+#[derive(Clone, Copy)]
 pub enum Decoded {
     Marker(CoherentSetMarker),
     NotEightBytes,
@@ -107,28 +109,28 @@ fn number_of(bytes: &[u8]) -> u64
 }
 
 // The publisher's scope: whether a coherent set is open, and the number of its first sample.
-#[derive(Drop)]
+#[derive(Clone, Copy)]
 pub struct CoherentScope {
     pub active: bool,
     pub set_first_sn: i64,
 }
 
 // The marker that a write carries, if any.
-#[derive(Drop)]
+#[derive(Clone, Copy)]
 pub enum CurrentMarker {
     Marker(CoherentSetMarker),
     Nothing,
 }
 
 // How a begin ended, with the scope after it.
-#[derive(Drop)]
+#[derive(Clone, Copy)]
 pub enum CoherentBegun {
     Begun(CoherentScope),
     PreconditionNotMet(CoherentScope),
 }
 
 // How an end ended, with the scope after it.
-#[derive(Drop)]
+#[derive(Clone, Copy)]
 pub enum CoherentEnded {
     Ended(CoherentSetMarker, CoherentScope),
     PreconditionNotMet(CoherentScope),
@@ -190,13 +192,13 @@ impl CoherentScope {
 }
 
 // The subscriber's access scope: how many begins are open, and the snapshot's generation.
-#[derive(Drop)]
+#[derive(Clone, Copy)]
 pub struct GroupAccessScope {
     pub open_count: u32,
     pub snapshot_generation: u64,
 }
 
-#[derive(Drop)]
+#[derive(Clone, Copy)]
 pub enum AccessEnded {
     Ended,
     PreconditionNotMet,

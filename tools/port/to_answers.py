@@ -1,0 +1,371 @@
+#!/usr/bin/env python3
+"""Turns the Proof.antt files of a crate into Invariants.antt and Answers.antt.
+
+usage: python3 tools/port/to_answers.py CRATE NAMES.json [FUNCTION-PATH..]
+
+NAMES.json is what `rt check --generated DIR --old-names` writes in the crate's folder. A file of the old form (tie.close)
+is turned; others are left. The old file goes to /tmp/old-proofs. What it could not place is printed.
+"""
+import json
+import os
+import re
+import shutil
+import sys
+
+TRIVIAL = {"omega arith", "search rules", "refl", "search rules depth 9", "tt"}
+
+
+def norm(n):
+    n = re.sub(r"^Is([A-Z])", lambda m: m.group(1).lower(), n)
+    return n.replace("_", "-").lower()
+
+
+def declarations(text):
+    """Top-level pieces: (comment lines, signature name, type, body lines)."""
+    lines = text.split("\n")
+    out, cur, comment = [], None, []
+    sig = re.compile(r"^((?:pub |abbrev |unfoldable |private )*)([^\s:(){},;.]+)\s*:\s*(.*)$")
+    for l in lines:
+        if l.startswith("use ") :
+            out.append(("use", l))
+            continue
+        m = sig.match(l)
+        if m and not l.startswith("--"):
+            cur = ["decl", comment, m.group(1), m.group(2), [m.group(3)], []]
+            comment = []
+            out.append(cur)
+            state = "type"
+            continue
+        if l.startswith("--") :
+            comment.append(l)
+            continue
+        if cur is None:
+            if l.strip():
+                out.append(("raw", l))
+            elif comment:
+                out.append(("comment", comment))
+                comment = []
+            continue
+        if not l.strip() and comment:
+            continue
+        if not cur[5] and l.startswith(" "):
+            cur[4].append(l.strip())
+        else:
+            cur[5].append(l)
+    return out
+
+
+class Names:
+    def __init__(self, d):
+        self.d = d
+        self.old = [p[0] for p in d["places"]]
+        self.parent = {p[0]: p[1] for p in d["places"]}
+        self.step = {p[0]: p[2] for p in d["places"]}
+        self.newplace = dict(zip(self.old, d["places_by_name"]))
+        self.typed = {}
+        for p, t in zip(self.old, d["typed"]):
+            for v, s in t:
+                self.typed.setdefault(p, []).append((v, s))
+        self.goal = {}
+        for i, (a, b) in enumerate(d["needs"]):
+            at = d["asked_at"][i][0] if i < len(d["asked_at"]) else "Start"
+            self.goal.setdefault(norm(a), (b, at))
+        self.loops = {}
+        for l, ch in zip(d["loops"], d["changed"]):
+            self.loops[norm(l[0][0])] = (l[0][1], l[1], ch)
+
+    def need(self, n):
+        n = norm(n)
+        for k in (n, re.sub(r"^overflow-", "", n), re.sub(r"^(is|the)-", "", n)):
+            if k in self.goal:
+                return self.goal[k]
+        return None
+
+    def chain(self, p):
+        out = []
+        while p is not None:
+            out.append(p)
+            p = self.parent.get(p)
+        return out
+
+    def field(self, place, k, name):
+        """The new path of the step `name` that is k steps out from place, or None."""
+        ch = self.chain(place)
+        if name in ("args", "requires", "ranges"):
+            return "c." + name
+        n = norm(name)
+        for exact in (True, False):
+            best = None
+            for i, p in enumerate(ch):
+                s = self.step[p][0]
+                same = norm(s) == n if exact else re.sub(r"-?\d+$", "", norm(s)) == re.sub(r"-?\d+$", "", n)
+                if s and same and (best is None or abs(i - k) < abs(best[0] - k)):
+                    best = (i, "c." + self.step[p][1])
+            if best:
+                p = ch[best[0]]
+                for v, s in self.typed.get(p, []):
+                    if norm(s) == norm(self.step[p][0]):
+                        return "c.type_inv." + v, p
+                return best[1]
+        for i, p in enumerate(ch):
+            for v, s in self.typed.get(p, []):
+                if norm(s) == n or norm(v) == n:
+                    return "c.type_inv." + v, p
+        return None
+
+
+def split_path(s):
+    return s.split(".")
+
+
+PATH = re.compile(r"(?<![\w.'-])([A-Za-z_][\w'₀-₉]*)((?:\.[^\s(){}\[\],;.λ∷]+)+)")
+
+
+def turn_body(lines, names, place, said, args):
+    """Rewrites paths in a body whose record argument is c at the place."""
+    alias = {"c": 0}
+    text = "\n".join(lines)
+    out = []
+    pos = 0
+    drop = []
+    # aliases: let X = c.before.before in
+    for m in re.finditer(r"let\s+([A-Za-z_][\w']*)\s*=\s*([A-Za-z_][\w']*)((?:\.before)+)\s+in[ \n]?", text):
+        if m.group(2) in alias:
+            alias[m.group(1)] = alias[m.group(2)] + m.group(3).count(".before")
+            drop.append(m.span())
+    for m in re.finditer(r"let\s+([A-Za-z_][\w']*)\s*=\s*([A-Za-z_][\w']*)\s+in[ \n]?", text):
+        if m.group(2) in alias:
+            alias[m.group(1)] = alias[m.group(2)]
+            drop.append(m.span())
+    for a, b in sorted(drop):
+        out.append(text[pos:a])
+        pos = b
+    out.append(text[pos:])
+    text = "".join(out)
+    # lets left alone on a line
+    text = re.sub(r"\n[ \t]*\n", "\n", text)
+
+    def path(m):
+        v, rest = m.group(1), m.group(2).split(".")[1:]
+        if v not in alias:
+            return m.group(0)
+        k = alias[v]
+        while rest and rest[0] == "before":
+            k += 1
+            rest.pop(0)
+        if not rest:
+            said.append(f"a whole record: {m.group(0)}")
+            return m.group(0)
+        got = names.field(place, k, rest[0])
+        if got is None:
+            said.append(f"no step {rest[0]} ({m.group(0)}) at {place}: {[names.step[p][0] for p in names.chain(place)]}")
+            return m.group(0)
+        if isinstance(got, tuple):
+            rest = rest[1:]
+            if rest and rest[0] == "given":
+                rest = rest[1:]
+            return ".".join([got[0]] + rest)
+        if rest[0] in ("args", "ranges") and len(rest) > 1:
+            rest[1] = rest[1].replace("-", "_")
+        if rest[0] == "args" and len(rest) > 1 and re.fullmatch(r"t\d+", rest[1]) and args:
+            i = int(rest[1][1:]) - 1
+            if i < len(args):
+                rest[1] = args[i]
+        return ".".join([got] + rest[1:])
+
+    text = PATH.sub(path, text)
+    for v in alias:
+        if v != "c" and re.search(r"(?<![\w.'-])" + re.escape(v) + r"(?![\w'-])", text):
+            said.append(f"alias {v} still used")
+    return text.split("\n")
+
+
+def parameters(crate, path):
+    """The parameter names of a function, from the source."""
+    want = path.split("/")
+    fn = want[-1].lstrip("+")
+    mods = [w for w in want[:-1] if w[0].islower()]
+    files = []
+    src = f"crates/{crate}/src"
+    if mods:
+        files = [f"{src}/{'/'.join(mods)}.rt"]
+    files += [f"{src}/lib.rt", f"{src}/main.rt"]
+    for f in files:
+        if os.path.exists(f):
+            t = open(f).read()
+            typ = [w for w in want[:-1] if w[0].isupper()]
+            if typ:
+                m = re.search(r"impl[^{]*\b" + typ[0] + r"\b[^{]*\{", t)
+                if m:
+                    t = t[m.start():]
+            m = re.search(r"fn " + fn + r"\s*(?:<[^>]*>)?\(([^)]*)\)", t)
+            if m:
+                ps = []
+                for a in re.split(r",(?![^\[]*\])", m.group(1)):
+                    a = a.strip()
+                    if not a:
+                        continue
+                    if "self" in a.split(":")[0]:
+                        ps.append("self")
+                    else:
+                        ps.append(a.split(":")[0].replace("mut ", "").strip())
+                return ps
+    return []
+
+
+def turn(crate, path, d, root="."):
+    folder = f"crates/{crate}/proofs/{path}"
+    text = open(f"{folder}/Proof.antt", encoding="utf-8").read()
+    if "Tie as tie" not in text:
+        return None
+    names = Names(d)
+    said = []
+    mod = f"Rattle.{crate}.proofs.{path.replace('/', '.')}"
+    pieces = declarations(text)
+    args = parameters(crate, path)
+    head, uses, inv, ans = [], [], [], []
+    helpers = {}
+    skipped = []
+    for x in pieces:
+        if x[0] == "use":
+            if re.search(re.escape(mod) + r"\.(Statement|Tie|Reads|Lts)\b", x[1]):
+                continue
+            uses.append(x[1])
+        elif x[0] == "comment":
+            head += x[1]
+        elif x[0] == "raw":
+            said.append("left: " + x[1])
+        else:
+            _, comment, mods, name, typ, body = x
+            if not uses and not head and comment:
+                head += comment
+                comment = []
+            t = " ".join(typ)
+            while body and not body[-1].strip():
+                body.pop()
+            m = re.match(r"tie\.(invariant|decreases|Invariant|Decreases)-([^\s]+)", t)
+            if m:
+                got = names.loops.get(norm(m.group(2)))
+                kind = m.group(1).lower()
+                if got is None:
+                    said.append(f"no loop for {t}")
+                    ans += comment + [f"{mods}{name} : {t}"] + body + [""]
+                    continue
+                new, vs, ch = got
+                unf = [b for b in body if b.startswith("unfolding")]
+                rest = [b for b in body if not b.startswith("unfolding")]
+                eq = "\n".join(rest)
+                m2 = re.match(re.escape(name) + r"((?:\s+[^\s=]+)*)\s*=\s*", eq)
+                if not m2:
+                    said.append(f"an invariant not read: {name}")
+                    continue
+                ps = m2.group(1).split()
+                ex = eq[m2.end():]
+                want = [v if not c else "initial." + v for v, c in zip(vs, ch)] + [v for v, c in zip(vs, ch) if c]
+                if len(ps) != len(want):
+                    said.append(f"{name}: {len(ps)} parameters {ps}, wanted {want}")
+                sub = dict(zip(ps, want))
+                ex = re.sub(
+                    r"(?<![\w.'₀-₉-])([A-Za-z_][\w'₀-₉]*)(?![\w'₀-₉-])",
+                    lambda g: "l." + sub[g.group(1)] if g.group(1) in sub else g.group(0),
+                    ex,
+                )
+                inv += comment + [f"abbrev pub {kind}-{new} : goal.{kind}-{new}"] + unf + [f"{kind}-{new} l = " + ex, ""]
+                continue
+            m = re.match(r"tie\.(?:Need-)?([^\s]+)", t)
+            if m and t.startswith("tie."):
+                got = names.need(m.group(1))
+                if got is None:
+                    said.append(f"no goal for {t}")
+                    skipped += comment + [f"{mods}{name} : {t}"] + body + [""]
+                    continue
+                new, place = got
+                unf = [b for b in body if b.startswith("unfolding")]
+                rest = [b for b in body if not b.startswith("unfolding")]
+                eq = "\n".join(rest)
+                m2 = re.match(re.escape(name) + r"((?:\s+[^\s=]+)*)\s*=\s*", eq)
+                if not m2:
+                    said.append(f"an answer not read: {name}")
+                    continue
+                ps = m2.group(1).split()
+                ex = eq[m2.end():]
+                if ex.strip() in TRIVIAL and not unf:
+                    continue
+                if ps and ps[0] != "c":
+                    said.append(f"{name}: parameters {ps}")
+                lines = turn_body(ex.split("\n"), names, place, said, args)
+                ps = [p for p in ps if p != "κs"]
+                first = lines[0].strip()
+                if first:
+                    lines = [f"{new} {' '.join(ps)} = {lines[0].rstrip()}"] + lines[1:]
+                else:
+                    lines = [f"{new} {' '.join(ps)} ="] + lines[1:]
+                ans += comment + [f"pub {new} : goal.{new}"] + unf + lines + [""]
+                continue
+            if name.endswith("-spec") or name.endswith("_spec"):
+                continue
+            if "reads." in t or "lts." in t or "tie." in t:
+                said.append(f"a helper over a place: {name} : {t[:200]}")
+                m3 = re.search(r"lts\.([^\s]+)", t)
+                place = None
+                if m3:
+                    for p in names.old:
+                        if norm(p) == norm(m3.group(1)):
+                            place = p
+                if place:
+                    newp = names.newplace[place]
+                    helpers[name] = newp
+                    t2 = re.sub(r"lts\.[^\s]+\s+reads\.Pre\s+reads\.Post(?:\s+(?:invariant|decreases)-[^\s)]+)*", newp, t)
+                    tl = turn_body([t2], names, place, said, args)
+                    bl = turn_body(body, names, place, said, args)
+                    ans += comment + [f"-- of the place {newp}", f"{mods}{name} : {tl[0]}"] + bl + [""]
+                    continue
+            ans += comment + [f"{mods}{name} : {t}"] + body + [""]
+    plain = list(uses)
+    if helpers:
+        uses.append(f"use {mod}.Goals.{{{', '.join(sorted(set(helpers.values())))}}}")
+        goal_now = None
+        for i, l in enumerate(ans):
+            m = re.match(r"pub (\S+) : goal\.\1$", l)
+            if m:
+                goal_now = m.group(1)
+            elif re.match(r"\S+ : ", l):
+                goal_now = None
+            elif goal_now:
+                for h, p in helpers.items():
+                    ans[i] = re.sub(r"(?<![\w.'-])" + re.escape(h) + r" c(?![\w.'-])", f"{h} (goal.at.{goal_now} c).{p}", ans[i])
+    old = f"/tmp/old-proofs/{crate}/{path}"
+    os.makedirs(old, exist_ok=True)
+    shutil.move(f"{folder}/Proof.antt", f"{old}/Proof.antt")
+    with open(f"{old}/all.antt", "w") as f:
+        f.write("\n".join(head + uses + [f"use {mod}.Goals as goal", ""] + ans + ["-- skipped"] + skipped) + "\n")
+    if inv:
+        open(f"{folder}/Invariants.antt", "w").write("\n".join(head + plain + [f"use {mod}.Given as goal", ""] + inv).rstrip() + "\n")
+    if ans:
+        open(f"{folder}/Answers.antt", "w").write("\n".join((head if not inv else []) + uses + [f"use {mod}.Goals as goal", ""] + ans).rstrip() + "\n")
+    if not os.listdir(folder):
+        os.removedirs(folder)
+    for s in said:
+        print(f"{crate} {path}: {s}")
+    return True
+
+
+def main():
+    crate, file = sys.argv[1], sys.argv[2]
+    only = sys.argv[3:]
+    d = json.load(open(file))
+    done = 0
+    for k, v in sorted(d.items()):
+        m = re.match(r"Rattle-(\w+)-proofs\.(.*)\.Lts$", k)
+        if not m or m.group(1) != crate:
+            continue
+        path = m.group(2).replace(".", "/")
+        if only and path not in only:
+            continue
+        if os.path.exists(f"crates/{crate}/proofs/{path}/Proof.antt"):
+            if turn(crate, path, v):
+                done += 1
+    print(f"{crate}: {done} turned")
+
+
+main()
