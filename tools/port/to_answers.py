@@ -16,7 +16,7 @@ TRIVIAL = {"omega arith", "search rules", "refl", "search rules depth 9", "tt"}
 
 
 def norm(n):
-    n = re.sub(r"^Is([A-Z])", lambda m: m.group(1).lower(), n)
+    n = re.sub(r"[-_]lem$", "", re.sub(r"^Is([A-Z])", lambda m: m.group(1).lower(), n))
     return n.replace("_", "-").lower()
 
 
@@ -63,6 +63,10 @@ class Names:
         self.step = {p[0]: p[2] for p in d["places"]}
         self.newplace = dict(zip(self.old, d["places_by_name"]))
         self.typed = {}
+        self.found = None
+        self.callee = {p[0]: p[3] for p in d["places"]}
+        self.arms = dict(zip(self.old, d["arms"]))
+        self.args = {a.split(" .")[1]: b.split(" .")[1] for a, b in d["args"] if " ." in a}
         for p, t in zip(self.old, d["typed"]):
             for v, s in t:
                 self.typed.setdefault(p, []).append((v, s))
@@ -88,6 +92,15 @@ class Names:
             p = self.parent.get(p)
         return out
 
+    def arm(self, place, step, rest):
+        """The field of an arm that stands for old step.rest, and how many words of rest it takes."""
+        for p in self.chain(place):
+            a = self.arms.get(p)
+            for new, s, path in (a[2] if a else []):
+                if norm(s) == norm(step) and not new.endswith("-own") and rest[: len(path)] == path:
+                    return f"c.{a[0]}.{new}", len(path)
+        return None
+
     def field(self, place, k, name):
         """The new path of the step `name` that is k steps out from place, or None."""
         ch = self.chain(place)
@@ -103,9 +116,11 @@ class Names:
                     best = (i, "c." + self.step[p][1])
             if best:
                 p = ch[best[0]]
+                self.found = self.step[p][0]
+                self.at = p
                 for v, s in self.typed.get(p, []):
                     if norm(s) == norm(self.step[p][0]):
-                        return "c.type_inv." + v, p
+                        return "c.type_inv." + v, best[1]
                 return best[1]
         for i, p in enumerate(ch):
             for v, s in self.typed.get(p, []):
@@ -124,6 +139,7 @@ PATH = re.compile(r"(?<![\w.'-])([A-Za-z_][\w'₀-₉]*)((?:\.[^\s(){}\[\],;.λ�
 def turn_body(lines, names, place, said, args):
     """Rewrites paths in a body whose record argument is c at the place."""
     alias = {"c": 0}
+    d_params = names.d["params"]
     text = "\n".join(lines)
     out = []
     pos = 0
@@ -156,24 +172,61 @@ def turn_body(lines, names, place, said, args):
         if not rest:
             said.append(f"a whole record: {m.group(0)}")
             return m.group(0)
+        names.found = None
         got = names.field(place, k, rest[0])
+        if names.found:
+            a = names.arm(place, names.found, rest[1:])
+            if a:
+                return ".".join([a[0]] + rest[1 + a[1]:])
         if got is None:
             said.append(f"no step {rest[0]} ({m.group(0)}) at {place}: {[names.step[p][0] for p in names.chain(place)]}")
             return m.group(0)
         if isinstance(got, tuple):
-            rest = rest[1:]
-            if rest and rest[0] == "given":
-                rest = rest[1:]
-            return ".".join([got[0]] + rest)
-        if rest[0] in ("args", "ranges") and len(rest) > 1:
+            if rest[1:2] == ["given"]:
+                return ".".join([got[0]] + rest[2:])
+            got = got[1]
+            if not got.startswith("c."):
+                said.append(f"type of {rest} at {place}")
+                return m.group(0)
+        f = d_params.get(names.callee.get(names.at)) if names.found else None
+        if f and rest[1:2] == ["new"]:
+            i = 2
+            while i < len(rest) and rest[i] == "1":
+                i += 1
+            if i < len(rest) and rest[i] == "0" and i - 2 < len(f):
+                rest = [rest[0], "new", f[i - 2]] + rest[i + 1 :]
+        if rest[0] in ("args", "ranges") and rest[0] == got[2:] and len(rest) > 1:
             rest[1] = rest[1].replace("-", "_")
-        if rest[0] == "args" and len(rest) > 1 and re.fullmatch(r"t\d+", rest[1]) and args:
-            i = int(rest[1][1:]) - 1
-            if i < len(args):
-                rest[1] = args[i]
         return ".".join([got] + rest[1:])
 
+    def stepped(m):
+        """let x = c.before.f in: what x.new.1.0 is, by f's parameters."""
+        names.found = None
+        v, rest = m.group(2), m.group(3).split(".")[1:]
+        if v not in alias or not rest:
+            return
+        k = alias[v]
+        while rest and rest[0] == "before":
+            k += 1
+            rest.pop(0)
+        if len(rest) != 1:
+            return
+        names.field(place, k, rest[0])
+        f = d_params.get(names.callee.get(names.at)) if names.found else None
+        if f:
+            steps[m.group(1)] = f
+
+    steps = {}
+    for m in re.finditer(r"let\s+([A-Za-z_][\w']*)\s*=\s*([A-Za-z_][\w']*)((?:\.[\w'-]+)+)\s+in", text):
+        stepped(m)
     text = PATH.sub(path, text)
+    for v, f in steps.items():
+        def at(m):
+            n = m.group(1).count("1")
+            return f"{v}.new.{f[n]}" if n < len(f) else m.group(0)
+        text = re.sub(r"(?<![\w.'-])" + re.escape(v) + r"\.new((?:\.1)*)\.0(?![\w'-])", at, text)
+    for a, b in names.args.items():
+        text = re.sub(r"\." + re.escape(a) + r"(?![\w'-])", "." + b, text)
     for v in alias:
         if v != "c" and re.search(r"(?<![\w.'-])" + re.escape(v) + r"(?![\w'-])", text):
             said.append(f"alias {v} still used")
@@ -225,6 +278,7 @@ def turn(crate, path, d, root="."):
     args = parameters(crate, path)
     head, uses, inv, ans = [], [], [], []
     helpers = {}
+    local = {}
     skipped = []
     for x in pieces:
         if x[0] == "use":
@@ -276,7 +330,8 @@ def turn(crate, path, d, root="."):
             if m and t.startswith("tie."):
                 got = names.need(m.group(1))
                 if got is None:
-                    said.append(f"no goal for {t}")
+                    if not any(norm(x).endswith(norm(m.group(1)).split("-", 2)[-1]) for x in d["settled"]):
+                        said.append(f"no goal for {t}")
                     skipped += comment + [f"{mods}{name} : {t}"] + body + [""]
                     continue
                 new, place = got
@@ -306,7 +361,7 @@ def turn(crate, path, d, root="."):
                 continue
             if "reads." in t or "lts." in t or "tie." in t:
                 said.append(f"a helper over a place: {name} : {t[:200]}")
-                m3 = re.search(r"lts\.([^\s]+)", t)
+                m3 = re.search(r"(?:lts|tie)\.([^\s]+)", t)
                 place = None
                 if m3:
                     for p in names.old:
@@ -315,13 +370,41 @@ def turn(crate, path, d, root="."):
                 if place:
                     newp = names.newplace[place]
                     helpers[name] = newp
-                    t2 = re.sub(r"lts\.[^\s]+\s+reads\.Pre\s+reads\.Post(?:\s+(?:invariant|decreases)-[^\s)]+)*", newp, t)
+                    t2 = re.sub(r"(?:lts|tie)\.[^\s]+(?:\s+reads\.Pre\s+reads\.Post)?(?:\s+(?:invariant|decreases)-[^\s)]+)*", newp, t)
                     tl = turn_body([t2], names, place, said, args)
                     bl = turn_body(body, names, place, said, args)
                     ans += comment + [f"-- of the place {newp}", f"{mods}{name} : {tl[0]}"] + bl + [""]
                     continue
-            ans += comment + [f"{mods}{name} : {t}"] + body + [""]
+            local[name] = comment + [f"{mods}{name} : {t}"] + body + [""]
+            ans += [("local", name)]
     plain = list(uses)
+    # what an invariant names stands with it
+    moved = []
+    todo = "\n".join(inv)
+    again = True
+    while again:
+        again = False
+        for n in local:
+            if n not in moved and re.search(r"(?<![\w.'-])" + re.escape(n) + r"(?![\w'-])", todo):
+                moved.append(n)
+                todo += "\n".join(local[n])
+                again = True
+    if moved:
+        first = []
+        for n in local:
+            if n in moved:
+                ls = local[n]
+                first += [l if not re.match(r"((abbrev|unfoldable) )?" + re.escape(n) + r" : ", l) else ("abbrev pub " + n + l.split(n, 1)[1]) for l in ls]
+        inv = first + inv
+        uses.append(f"use {mod}.Invariants.{{{', '.join(moved)}}}")
+    flat = []
+    for l in ans:
+        if isinstance(l, tuple):
+            if l[1] not in moved:
+                flat += local[l[1]]
+        else:
+            flat.append(l)
+    ans = flat
     if helpers:
         uses.append(f"use {mod}.Goals.{{{', '.join(sorted(set(helpers.values())))}}}")
         goal_now = None

@@ -1,4 +1,6 @@
 // The decimal fields of a line: numbers read from text and printed, and where a field or a line ends.
+#![tactic(auto)]
+
 ghost use Rattle.std.specs.Prelude.{◌≡◌, ◌≤◌, ◌-◌, ◌^◌, length, drop};
 ghost use Rattle.std.proofs.Math.Option.{some};
 ghost use Rattle.decimal.specs.Read.{read_on, read_unsigned, read_signed, at_most, plus, minus, unsigned_as, signed_as};
@@ -7,13 +9,13 @@ ghost use Rattle.decimal.specs.Print.{digits_of, signed_digits, put};
 
 use coherent_set::bits_of;
 
-#[derive(Drop)]
+#[derive(Clone, Copy)]
 pub enum Unsigned {
     Value(u64),
     Bad,
 }
 
-#[derive(Drop)]
+#[derive(Clone, Copy)]
 pub enum Signed {
     Value(i64),
     Bad,

@@ -2,7 +2,7 @@
 ghost use Rattle.std.specs.Prelude.{◌≡◌};
 ghost use Rattle.guids.specs.Guid.{compare_guid, order_as};
 
-#[derive(Drop)]
+#[derive(Clone, Copy)]
 pub enum GuidOrder {
     Before,
     Same,

@@ -6,7 +6,7 @@ ghost use Rattle.guids.specs.Keys.{key_as};
 
 use crate::guid::{GuidOrder, compare};
 
-#[derive(Drop)]
+#[derive(Clone, Copy)]
 pub struct Key {
     pub hi: u64,
     pub lo: u64,

@@ -1,12 +1,12 @@
 -- Document 01's call list and P lines, computed by the definitions, and the notation of all figures.
 -- Figures that a wrong rule would not give stand by rule in FiguresOffer, FiguresMarks, FiguresSets, FiguresRelease and FiguresClaim.
-use Prim.Native.Nat.{ℕ, ◌+◌}
+use Prim.Native.Nat.{ℕ}
 use mathlib.Core.Path.{◌≡◌, refl}
 use mathlib.Core.Bool.{true, false}
 use mathlib.Core.List.{List, [], ◌∷◌, ◌++◌, map}
 use mathlib.Core.Option.{Option, some, none}
 use lib.IntN.{ℤ, pos}
-use lib.ListN.{length, replicate, set}
+use lib.ListN.{length, replicate}
 use Rattle.laws.specs.Lists.{keep, all, any, count, find, change, is_some}
 use Rattle.guids.specs.Guid.{Guid, compare_guid, same_guid, before}
 use Rattle.rules.specs.Entry.{What, sample, set_end, Entry, is_sample, of_group, in_set, of_pair, is_member, is_end_of, marks}
@@ -16,7 +16,6 @@ use Rattle.rules.specs.Offer.{Fate, isStored, isJoined, isLate, refusal, one_lat
 use Rattle.rules.specs.Sets.{Pair, lowest_set, lowest_ended, end_missing, members_of, members_of_pair, agrees, whole, without, is_stale, lowest_stale}
 use Rattle.rules.specs.Commit.{DigestRow, accepted, secure_accepted, digests_accepted, all_from, pair_past, ruled_out, is_head, head_of, lowest_number, next, copies_arrived, ready}
 use Rattle.rules.specs.Release.{skip, discards, young, discard, hand_out, finish, discard_stale, with_held, with_out, commit_one, commit_all, commit, waits, round, rounds, enough, View, turn_of, committed_at, malformed, at_group, release_group, release_all, work_of, back_to, released, samples, release_refusal, release}
-use Rattle.rules.specs.Claim.{counts}
 use Rattle.rules.specs.Run.{Call, offers, heartbeats, gaps, releases, Said, is_refused, is_offered, is_done, is_released, step, run}
 
 -- GUID k: fifteen zero bytes and k

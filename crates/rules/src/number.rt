@@ -6,7 +6,7 @@ ghost use Rattle.rules.specs.Marks.{number, past_marks};
 ghost use Rattle.rules.specs.Commit.{lowest_open};
 
 // A whole number by its sign: n, or -(n + 1).
-#[derive(Drop)]
+#[derive(Clone, Copy)]
 pub enum Whole {
     NotNegative(u64),
     Negative(u64),
@@ -47,7 +47,7 @@ pub fn is_distance(count: u64, first: i64, own: i64) -> bool
 }
 
 // What a pair of writer and reader was told: the highest number seen, the gap end, the last heartbeat's range and current number.
-#[derive(Drop)]
+#[derive(Clone, Copy)]
 pub struct Marks {
     pub seen: u64,
     pub gap_end: u64,
