@@ -80,7 +80,7 @@ class Names:
 
     def need(self, n):
         n = norm(n)
-        for k in (n, re.sub(r"^overflow-", "", n), re.sub(r"^(is|the)-", "", n)):
+        for k in (n, re.sub(r"^slice-bounds-", "part-", n), re.sub(r"^overflow-", "", n), re.sub(r"^(is|the)-", "", n)):
             if k in self.goal:
                 return self.goal[k]
         return None

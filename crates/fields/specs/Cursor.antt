@@ -1,6 +1,6 @@
 -- A line read from its front: the field at a place of a text, what it spells, and where it ends. `nl`: a newline, 10, ends the line;
 -- where it is false, the text is one line.
-use Rattle.std.specs.Prelude.{ℕ, ◌+◌, ◌-◌, ◌^◌, min, Bool, true, false, cond, not, ◌&&◌, ◌||◌, List, [], ◌∷◌, eqb, leb, ℤ, pos, length, get_or, drop}
+use Rattle.std.specs.Prelude.{ℕ, ◌+◌, ◌-◌, ◌^◌, min, Bool, cond, not, ◌&&◌, ◌||◌, List, [], ◌∷◌, eqb, leb, ℤ, pos, length, get_or, drop}
 use Rattle.std.proofs.Math.Option.{Option, none, some}
 use Rattle.fields.specs.Fields.{only}
 use Rattle.fields.specs.declared.cursor.ByteAfter.{ByteAfter}

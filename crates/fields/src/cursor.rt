@@ -9,25 +9,25 @@ ghost use Rattle.fields.specs.Cursor.{field_in, field_from, field_after, dash_af
 
 use decimal::field_end;
 
-#[derive(Drop)]
+#[derive(Clone, Copy)]
 pub struct ByteAfter {
     pub value: u8,
     pub end: usize,
 }
 
-#[derive(Drop)]
+#[derive(Clone, Copy)]
 pub struct WordAfter {
     pub value: u32,
     pub end: usize,
 }
 
-#[derive(Drop)]
+#[derive(Clone, Copy)]
 pub struct LongAfter {
     pub value: u64,
     pub end: usize,
 }
 
-#[derive(Drop)]
+#[derive(Clone, Copy)]
 pub struct NumberAfter {
     pub value: i64,
     pub end: usize,

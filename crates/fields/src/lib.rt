@@ -1,5 +1,7 @@
 // The fields of a line, split at each space and numbered from 0. What is read of a field says whether it is good; where it is not, its value
 // is 0.
+#![tactic(auto)]
+
 pub mod cursor;
 
 ghost use Rattle.std.specs.Prelude.{◌≡◌, pos, length};
@@ -7,25 +9,25 @@ ghost use Rattle.fields.specs.Fields.{fields_of, field_at, only, byte, word, lon
 
 use decimal::{Signed, Unsigned, field_end, read_signed, read_unsigned};
 
-#[derive(Drop)]
+#[derive(Clone, Copy)]
 pub struct Byte {
     pub ok: bool,
     pub value: u8,
 }
 
-#[derive(Drop)]
+#[derive(Clone, Copy)]
 pub struct Word {
     pub ok: bool,
     pub value: u32,
 }
 
-#[derive(Drop)]
+#[derive(Clone, Copy)]
 pub struct Long {
     pub ok: bool,
     pub value: u64,
 }
 
-#[derive(Drop)]
+#[derive(Clone, Copy)]
 pub struct Number {
     pub ok: bool,
     pub value: i64,

@@ -5,14 +5,14 @@ ghost use Rattle.laws.specs.Lists.{keep, index_of};
 ghost use Rattle.filter_hold.specs.Tbf.{from_zero, time_after, whole_seconds, not_after, hold_as, follows, insert, supersede, fresh_hold, cleared, hold_answer_as, holding_as, hold, written, due_answer_as, taking_as, take_due, asked_for, HeldCount};
 
 // Signed seconds and nanoseconds.
-#[derive(Drop)]
+#[derive(Clone, Copy)]
 pub struct Time {
     pub sec: i32,
     pub nanosec: u32,
 }
 
 // The filter's minimum separation.
-#[derive(Drop)]
+#[derive(Clone, Copy)]
 pub struct Separation {
     pub sec: u32,
     pub nanosec: u32,
@@ -33,7 +33,7 @@ pub fn time_after(at: Time, separation: Separation) -> Time
 }
 
 // Nanoseconds as whole seconds and the nanoseconds left.
-#[derive(Drop)]
+#[derive(Clone, Copy)]
 struct Carried {
     sec: u64,
     nanosec: u64,
@@ -89,7 +89,7 @@ fn not_after(a: Time, b: Time) -> bool
 }
 
 // A held sample of an instance, and when it is due.
-#[derive(Drop)]
+#[derive(Clone, Copy)]
 pub struct Held {
     pub instance: u64,
     pub item: u32,
@@ -97,13 +97,13 @@ pub struct Held {
 }
 
 // The first len are held, in the order of their instances; len above 32 counts as 32.
-#[derive(Drop)]
+#[derive(Clone, Copy)]
 pub struct TbfHold {
     pub len: usize,
     pub held: [Held; 32],
 }
 
-#[derive(Drop)]
+#[derive(Clone, Copy)]
 pub enum HoldAnswer {
     Held,
     BadSeparation,
@@ -111,27 +111,27 @@ pub enum HoldAnswer {
 }
 
 // How a hold ended, with the hold after it.
-#[derive(Drop)]
+#[derive(Clone, Copy)]
 pub struct Holding {
     pub answer: HoldAnswer,
     pub hold: TbfHold,
 }
 
-#[derive(Drop)]
+#[derive(Clone, Copy)]
 pub enum DueAnswer {
     Taken(usize),
     ListTooShort,
 }
 
 // How a take ended, with the hold after it.
-#[derive(Drop)]
+#[derive(Clone, Copy)]
 pub struct Taking {
     pub answer: DueAnswer,
     pub hold: TbfHold,
 }
 
 // Which samples are asked for: those of other instances, those due at or before a time, those not due.
-#[derive(Drop)]
+#[derive(Clone, Copy)]
 enum Asked {
     OfOthers(u64),
     Due(Time),

@@ -194,6 +194,7 @@ module _ {X : Type 0} where
   unfolding any
   any_set g z b none [] closed = refl
   any_set g z b (some s) l (opened a k) = ap (λ c. c && (not (any (λ m. marks m) l) && b)) a ∙ ap (λ c. not c && b) (sym k.ended)
+  any_set g z b none (_ ∷ _) x4 = elim x4 [ ]
 
   any_kept_true : (q : Entry X → Bool) (l : List (Entry X)) → any q l ≡ any (λ h. true) (keep q l)
   any_kept_true q l = any_ext q (λ h. q h && true) (λ h. sym (and_true_right (q h))) l ∙ sym (any_keep (λ h. true) q l)

@@ -13,7 +13,7 @@ use Rattle.laws.specs.Whole.{eq_z}
 use Rattle.laws.specs.Lists.{keep, all, any, count, is_some}
 use Rattle.guids.specs.Guid.{Guid, same_guid}
 use Rattle.rules.specs.Entry.{What, sample, set_end, Entry, is_sample, is_sample_w, is_set, of_group, of_pair, in_set}
-use Rattle.rules.specs.State.{State, Group, Writer, is_group, is_writer, knows_group, knows_writer}
+use Rattle.rules.specs.State.{State, Writer, is_group, is_writer, knows_group, knows_writer}
 use Rattle.laws.proofs.Lists.{not_both, and_true, and_left, and_right, keep_keep, keep_same, count_map, count_one, count_nil, count_cons, count_all, all_yes, all_kept, find_any, none_some, all_keep, length_split}
 use Rattle.guids.proofs.Guids.{same_eq, same_refl}
 use Rattle.rules.proofs.Minima.{eq_z_refl, eq_z_eq}
@@ -85,6 +85,9 @@ writer_case : (u : Option Progress) (l : List Writer) → WriterLike u l → is_
 unfolding is_some
 writer_case none [] unknown = refl
 writer_case (some p) (w ∷ []) (known k) = refl
+writer_case none (w ∷ _) x3 = elim x3 [ ]
+writer_case (some p) [] x3 = elim x3 [ ]
+writer_case (some p) (w ∷ (_ ∷ _)) x8 = elim x8 [ ]
 
 pub known_writer : (g w : Guid) (m : List (Guid × Progress)) (ws : List Writer) → WritersLike g m ws → knows_writer g w ws ≡ is_some (get guids w m)
 unfolding knows_writer
@@ -95,6 +98,9 @@ one_writer : (g w : Guid) (u : Option Progress) (l : List Writer) → WriterLike
 unfolding all
 one_writer g w none [] unknown e = count_nil (λ x. same_guid g x.group)
 one_writer g w (some p) (x ∷ []) (known k) e = count_one (λ x. same_guid g x.group) x ∙ ap (λ b. cond b 1 0) (group_of g w x (and_left (is_writer g w x) _ e))
+one_writer g w none (x ∷ _) x6 e = elim x6 [ ]
+one_writer g w (some p) [] x4 e = elim x4 [ ]
+one_writer g w (some p) (x ∷ (_ ∷ _)) x10 e = elim x10 [ ]
 
 group_writers : (g : Guid) (m : List (Guid × Progress)) (ws : List Writer) → WritersLike g m ws → count (λ x. true) (keep (λ x. same_guid g x.group) ws) ≡ length m
 unfolding guids
@@ -167,6 +173,7 @@ module _ {X : Type 0} where
       held_case : (u : Option (OpenSet X)) (r : List (Entry X)) → SetLike u r → count q r ≡ len_o len u
       held_case none [] closed = count_nil q
       held_case (some t) r (opened b k) = f t r k
+      held_case none (_ ∷ _) x4 = elim x4 [ ]
 
   member_count : (q : Entry X → Bool) (qm : S.Entry X → Bool) → ((e : Entry X) → qm (as_entry e) ≡ q e) → (t : OpenSet X) (l : List (Entry X)) → OpenLike t l → count (λ h. is_sample h && q h) l ≡ count qm t.members
   member_count q qm h t l k =
@@ -181,6 +188,9 @@ module _ {X : Type 0} where
   unfolding is_sample
   end_one none [] no_end = count_nil (λ h. not (is_sample h))
   end_one (some x) (e ∷ []) (one_end d) = count_one (λ h. not (is_sample h)) e ∙ ap (λ b. cond b 1 0) (end_not_sample e.what x d)
+  end_one none (e ∷ _) x3 = elim x3 [ ]
+  end_one (some x) [] x4 = elim x4 [ ]
+  end_one (some x) (e ∷ (_ ∷ _)) x9 = elim x9 [ ]
 
   pair_own : (h : Entry X) → not (is_sample h) ≡ true → is_pair_end (h.writer, h.reader) h ≡ true
   unfolding is_pair_end of_pair

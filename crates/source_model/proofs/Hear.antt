@@ -228,6 +228,9 @@ module _ (g w : Guid) (fm : Progress → Progress) (f : Writer → Writer) (same
   told_like : (o : Option Progress) (l : List Writer) → WriterLike o l → WriterLike (some (fm (or_default no_progress o))) (told_head f (new_writer g w) l)
   told_like none [] unknown = known (kept no_progress (new_writer g w) (new_alike g w))
   told_like (some p) (x ∷ []) (known l) = known (kept p x l)
+  told_like none (x ∷ _) x4 = elim x4 [ ]
+  told_like (some p) [] x3 = elim x3 [ ]
+  told_like (some p) (x ∷ (_ ∷ _)) x9 = elim x9 [ ]
 
   pub writers_own : (m : List (Guid × Progress)) (l : List Writer) → WritersLike g m l → WritersLike g (entry guids no_progress w fm m) (tell g w f l)
   unfolding entry guids

@@ -9,7 +9,7 @@ use lib.Dec.{ltb}
 use Rattle.laws.specs.Lists.{change}
 use Rattle.guids.specs.Guid.{Guid, same_guid}
 use Rattle.rules.specs.Entry.{Entry}
-use Rattle.rules.specs.State.{State, Group, Writer, is_group, is_writer}
+use Rattle.rules.specs.State.{State, Writer, is_group, is_writer}
 use Rattle.rules.specs.Marks.{number, hear_group, saw, gapped, announced, announced_to, tell}
 use Rattle.rules.specs.Offer.{Heartbeat, Gap, with_marks}
 use Rattle.guids.proofs.Guids.{same_eq}

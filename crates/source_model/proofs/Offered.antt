@@ -12,7 +12,7 @@ use borrow.Author.Tests.{ltb-true, ltb-false, lt-ltb, le-ltb, le-leb, lt-leb}
 use Rattle.laws.specs.Lists.{keep, all, any, find, is_some}
 use Rattle.guids.specs.Guid.{Guid, same_guid}
 use Rattle.rules.specs.Entry.{What, sample, set_end, Entry, is_sample_w, same_set, of_group, in_set, marks}
-use Rattle.rules.specs.State.{State, Group, Writer, Counts, plus, is_group, committed_in, committed_of}
+use Rattle.rules.specs.State.{State, Writer, Counts, plus, is_group, committed_in, committed_of}
 use Rattle.rules.specs.Marks.{number, hear_group, saw, tell}
 use Rattle.rules.specs.Offer.{Offer, Fate, isStored, isJoined, isLate, fate, one_late, with_marks, entry_of, shares, replaced, marked, mark_of, join, place, heard_offer}
 use Rattle.rules.specs.Offer as F
@@ -94,6 +94,9 @@ module _ {X : Type 0} where
   unfolding any marks is_some
   one_mark none [] no_end = refl
   one_mark (some x) (e ∷ []) (one_end d) = or_false (is_some e.ended)
+  one_mark none (e ∷ _) x3 = elim x3 [ ]
+  one_mark (some x) [] x4 = elim x4 [ ]
+  one_mark (some x) (e ∷ (_ ∷ _)) x9 = elim x9 [ ]
 
   pub pair_kept : (g : Guid) (z : ℤ) (e : Entry X) (l : List (Entry X)) → of_group g e ≡ true → e.set ≡ some z
       → keep (λ h. replaced e h) l ≡ keep (λ h. is_pair_end (e.writer, e.reader) h) (keep (λ h. in_set g z h) l)
@@ -114,11 +117,15 @@ module _ {X : Type 0} where
 pub open_of : {X : Type 0} (t : OpenSet X) (l : List (Entry X)) (u : Option (OpenSet X)) → u ≡ some t → SetLike u l → OpenLike t l
 open_of t [] none e closed = none_some t e
 open_of t l (some v) e (opened a k) = let q : v ≡ t = cc in rw (← q) k
+open_of {X = X} t (_ ∷ _) none e x6 = elim x6 [ ]
 
 pub pair_there : {X : Type 0} (o : Option SetEnd) (l : List (Entry X)) → EndLike o l → is_some o ≡ is_some (first_of l)
 unfolding is_some
 pair_there none [] no_end = refl
 pair_there (some x) (e ∷ []) (one_end d) = refl
+pair_there {X = X} none (e ∷ _) x3 = elim x3 [ ]
+pair_there {X = X} (some x) [] x4 = elim x4 [ ]
+pair_there {X = X} (some x) (e ∷ (_ ∷ _)) x9 = elim x9 [ ]
 
 -- ---- the state after an offer
 
@@ -327,6 +334,7 @@ module _ {X : Type 0} (o : GroupOrder X) (s : State X) (x : Offer X) (l : Like o
   unfolding is_some
   goes_case z e a b none [] c closed = goes_late
   goes_case z e a b (some t) w c (opened f g) = rw (is_open t w f) (goes_join z e t a b c)
+  goes_case z e a b none (_ ∷ _) c x7 = elim x7 [ ]
 
   goes_set : (z : ℤ) (e : SetEnd) → x.set ≡ some z → end_w x.what ≡ some e
       → Goes (join_or x.writer x.reader e z after (get numbers z after.sets)) (fate false (any (λ h. shares (entry_of x) h) s.held))

@@ -14,7 +14,7 @@ use Rattle.laws.specs.Lists.{keep, all, any, count, find, is_some}
 use Rattle.guids.specs.Guid.{Guid, same_guid}
 use Rattle.rules.specs.Entry.{Entry, of_group}
 use Rattle.rules.specs.State.{Group, Writer, is_writer, writer_of}
-use Rattle.rules.specs.Marks.{number, past_of}
+use Rattle.rules.specs.Marks.{past_of}
 use Rattle.rules.specs.Commit.{Turn, accepted, secure_accepted, digests_accepted, all_from, pair_past, ruled_out, is_head, head_of, next, copies_arrived, ready}
 use Rattle.rules.specs.Release.{View, turn_of}
 use Rattle.laws.proofs.Lists.{not_both, and_true, and_left, and_right, any_all, any_imp, find_any, keep_same, all_map, any_map, count_one, count_nil, count_cons, all_kept, map_o}
@@ -138,6 +138,9 @@ past_case : (r n : ℕ) (u : Option Progress) (l : List Writer) → WriterLike u
 unfolding past_of
 past_case r n none [] unknown = refl
 past_case r n (some p) (w ∷ []) (known k) = past_alike p w r n k
+past_case r n none (w ∷ _) x3 = elim x3 [ ]
+past_case r n (some p) [] x3 = elim x3 [ ]
+past_case r n (some p) (w ∷ (_ ∷ _)) x8 = elim x8 [ ]
 
 pub past_of_lem : (g w : Guid) (r n : ℕ) (m : List (Guid × Progress)) (ws : List Writer) → WritersLike g m ws → is_some_and (λ p. is_past p r (pos (suc n))) (get guids w m) ≡ past_of (writer_of g w ws) r (suc n)
 unfolding writer_of
@@ -207,6 +210,9 @@ module _ (g : Guid) (ok : Option ℕ → Bool) (fm : Progress → Option ℕ) (f
   bad_one w none [] unknown e = count_nil (λ x. bad x)
   bad_one w (some p) (x ∷ []) (known k) e =
       count_one (λ x. bad x) x ∙ ap (λ b. cond (b && not (ok (ff x))) 1 0) (group_of g w x (and_left (is_writer g w x) _ e)) ∙ ap (λ o. cond (not (ok o)) 1 0) (sym (same p x k))
+  bad_one w none (x ∷ _) x6 e = elim x6 [ ]
+  bad_one w (some p) [] x4 e = elim x4 [ ]
+  bad_one w (some p) (x ∷ (_ ∷ _)) x10 e = elim x10 [ ]
 
   all_digests : (m : List (Guid × Progress)) (ws : List Writer) → WritersLike g m ws → all (λ x. ok (fm x.1)) m ≡ all (λ x. not (same_guid g x.group && not (ok (ff x)))) ws
   unfolding bad guids

@@ -231,6 +231,8 @@ module _ (X : Type 0) (v : View) (now timeout : ℕ) (ws : List Writer) (turns n
   step_none : (x : Guid × S.Group X) (u : Option (Loop X)) (q : Option (Work X)) → StepLike (flat x).guid ws (flat x).announced u q → q ≡ none → u ≡ none
   step_none x none none stops e = refl
   step_none x (some lp) (some w) (goes l) e = none_some w (sym e)
+  step_none x none (some w) x5 e = elim x5 [ ]
+  step_none x (some lp) none x5 e = elim x5 [ ]
 
   stopped : (x : Guid × S.Group X) (w : Work X) → round (T (flat x)) (R.release_group (T (flat x)) (flat x) w) ≡ none
   unfolding R.release_group

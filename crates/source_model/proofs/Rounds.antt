@@ -42,6 +42,7 @@ module _ {X : Type 0} where
   unfolding any
   ended_case none [] closed = refl
   ended_case (some s) l (opened a k) = sym k.ended
+  ended_case none (_ ∷ _) x4 = elim x4 [ ]
 
   ended_sets : (g : Guid) (m : List (ℤ × OpenSet X)) (l : List (Entry X)) → SetsLike g m l
       → (z : ℤ) → any (λ h. is_set z h.set) (keep (λ h. of_group g h && marks h) l) ≡ is_some_and (λ s. s.end_committed) (get numbers z m)
@@ -102,6 +103,9 @@ module _ {X : Type 0} where
   agrees_case : (m : ℕ) (u : Option SetEnd) (l : List (Entry X)) → EndLike u l → is_some_and (λ x. agrees_with m x.first_sn x.ecs_sn) u ≡ agrees_e m (first_of l)
   agrees_case m none [] no_end = refl
   agrees_case m (some x) (e ∷ []) (one_end d) = agrees_what m e.what x d
+  agrees_case m none (e ∷ _) x3 = elim x3 [ ]
+  agrees_case m (some x) [] x4 = elim x4 [ ]
+  agrees_case m (some x) (e ∷ (_ ∷ _)) x9 = elim x9 [ ]
 
   count_pair : (g : Guid) (z : ℤ) (p : Pair) (s : OpenSet X) (l : List (Entry X)) → OpenLike s (keep (λ h. in_set g z h) l)
       → count (λ m. same_guid p.writer m.writer && eqb p.reader m.reader) s.members ≡ members_of_pair g z p l
@@ -341,6 +345,8 @@ module _ (X : Type 0) (v : View) (now timeout : ℕ) (ws : List Writer) (G : Gro
       → Alike (or_return G.guid (view_of v) now timeout (λ m. release_group G.guid (view_of v) now timeout k m) lp u) (R.or_stop (λ v. rounds k t v) w q)
   step_on k lp w l f none none stops = l
   step_on k lp w l f (some m) (some x) (goes h) = f m x h
+  step_on k lp w l f none (some x) x3 = elim x3 [ ]
+  step_on k lp w l f (some m) none x3 = elim x3 [ ]
 
   pub rounds_like : (k : ℕ) (lp : Loop X) (w : Work X) → Alike lp w → Alike (release_group G.guid (view_of v) now timeout k lp) (rounds k t w)
   unfolding release_group rounds

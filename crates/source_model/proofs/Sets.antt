@@ -121,6 +121,7 @@ module _ {X : Type 0} where
   pub set_open : (o : Option (OpenSet X)) (l : List (Entry X)) → SetLike o l → OpenLike (or_default no_set o) l
   set_open none [] closed = no_set_like
   set_open (some s) l (opened a k) = k
+  set_open none (_ ∷ _) x4 = elim x4 [ ]
 
   not_sample : (w : What X) (x : SetEnd) → end_w w ≡ some x → is_sample_w w ≡ false
   not_sample (sample i) x e = cc

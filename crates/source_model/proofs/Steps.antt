@@ -26,7 +26,7 @@ use Rattle.source_model.specs.Claim.{cut, cut_counts, below, as_counts, along, e
 use Rattle.source_model.specs.Map.{get, ascends}
 use Rattle.source_model.specs.Source.{GroupOrder, ReleaseCounts, no_group, none_counted, new, held_for, is_empty, Did, offer_to, offer_does, offer, heartbeat, gap, release}
 use Rattle.source_model.specs.Source as S
-use Rattle.source_model.specs.Calls.{Told, told_offered, told_released, told, end_w, item_w, group_info, entry_of, view_of, group_at, ninth, pair33, stored, samples, fate_of, adds, offer_refusal, offer_unless, done_unless, release_unless, step, run, answers, info_of}
+use Rattle.source_model.specs.Calls.{Told, told_offered, told_released, told, end_w, item_w, group_info, entry_of, view_of, group_at, ninth, pair33, stored, fate_of, adds, offer_refusal, offer_unless, done_unless, release_unless, step, run, answers, info_of}
 use Rattle.source_model.proofs.Like.{closed, unknown, GroupLike, Like, offer_entry}
 use Rattle.source_model.proofs.Bare.{over, bare, bare_group, bare_order, group_at_bare, does_bare, fate_did, entry_bare, adds_bare, heartbeat_bare, gap_bare, release_bare, returns_bare, ninth_bare, pair33_bare, stored_bare, samples_bare, held_bare, empty_bare}
 use Rattle.source_model.proofs.Marked.{heartbeat_like, gap_like}
