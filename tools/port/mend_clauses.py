@@ -61,6 +61,8 @@ for f, items in todo.items():
                         break
                 j += 1
             parts = split_top(t[k + 1 : j])
+            while len(parts) < len(names) and parts[-1].startswith("(") and parts[-1].endswith(")") and len(split_top(parts[-1][1:-1])) > 1:
+                parts = parts[:-1] + split_top(parts[-1][1:-1])
             if len(parts) > len(names):
                 parts = parts[: len(names) - 1] + ["(" + ", ".join(parts[len(names) - 1 :]) + ")"]
             if len(parts) != len(names):

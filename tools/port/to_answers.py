@@ -188,6 +188,10 @@ def turn_body(lines, names, place, said, args):
             if not got.startswith("c."):
                 said.append(f"type of {rest} at {place}")
                 return m.group(0)
+        if names.found and names.callee.get(names.at):
+            rest = named(rest, names.callee[names.at])
+        if rest[0] == "requires":
+            rest = named(rest, names.fn)
         f = d_params.get(names.callee.get(names.at)) if names.found else None
         if f and rest[1:2] == ["new"]:
             i = 2
@@ -215,11 +219,20 @@ def turn_body(lines, names, place, said, args):
         f = d_params.get(names.callee.get(names.at)) if names.found else None
         if f:
             steps[m.group(1)] = f
+        if names.found and names.callee.get(names.at):
+            callees[m.group(1)] = names.callee[names.at]
 
     steps = {}
+    callees = {}
     for m in re.finditer(r"let\s+([A-Za-z_][\w']*)\s*=\s*([A-Za-z_][\w']*)((?:\.[\w'-]+)+)\s+in", text):
         stepped(m)
     text = PATH.sub(path, text)
+    text = text.replace(".type-inv", ".type_inv")
+    text = re.sub(r"not-(?:true|false)\s+(?:\([^()]*\)|[^\s()]+)\s+(c\.if-not-[^\s)]*\.(?:true|false))(?![\w'-])", r"\1", text)
+    for v, fn in callees.items():
+        def clause(m):
+            return ".".join([v] + named(m.group(1).split(".")[1:], fn))
+        text = re.sub(r"(?<![\w.'-])" + re.escape(v) + r"((?:\.(?:ensures|[\w'-]+))+)", clause, text)
     for v, f in steps.items():
         def at(m):
             n = m.group(1).count("1")
@@ -266,12 +279,63 @@ def parameters(crate, path):
     return []
 
 
+def clause_names(root="."):
+    """The names of the clauses of each function, where a kind has several: {(crate, words): {kind: [names]}}."""
+    got = {}
+    for c in os.listdir(f"{root}/crates"):
+        for folder, ds, fs in os.walk(f"{root}/crates/{c}/src"):
+            for f in fs:
+                if not f.endswith(".rt"):
+                    continue
+                rel = os.path.relpath(os.path.join(folder, f), f"{root}/crates/{c}/src")[:-3]
+                mods = [] if rel in ("lib", "main") else rel.split("/")
+                typ = None
+                fn = None
+                for l in open(os.path.join(folder, f), encoding="utf-8"):
+                    m = re.match(r"impl(?:<[^>]*>)?\s+(?:\w+\s+for\s+)?(\w+)", l)
+                    if m:
+                        typ = m.group(1)
+                    if re.match(r"\}", l):
+                        typ = None
+                    m = re.match(r"\s*(?:pub(?:\([^)]*\))? )?(?:const )?fn (\w+)", l)
+                    if m:
+                        fn = "::".join([c] + mods + ([typ] if typ else []) + [m.group(1)])
+                        got[fn] = {"ensures": [], "requires": []}
+                    m = re.match(r"\s*(ensures|requires) (\w+) \{", l)
+                    if m and fn:
+                        got[fn][m.group(1)].append(m.group(2))
+    return got
+
+
+CLAUSES = clause_names()
+
+
+def named(rest, fn):
+    """ensures.1.0 of several named clauses: the clause's name."""
+    for i in (0, 1):
+        if len(rest) > i + 1 and rest[i] in ("ensures", "requires"):
+            names = CLAUSES.get(fn, {}).get(rest[i], [])
+            if not names:
+                return rest
+            k, j = 0, i + 1
+            while k < len(names) - 1 and j < len(rest) and rest[j] == "1":
+                k += 1
+                j += 1
+            if k < len(names) - 1:
+                if j >= len(rest) or rest[j] != "0":
+                    return rest
+                j += 1
+            return rest[: i + 1] + [names[k]] + rest[j:]
+    return rest
+
+
 def turn(crate, path, d, root="."):
     folder = f"crates/{crate}/proofs/{path}"
     text = open(f"{folder}/Proof.antt", encoding="utf-8").read()
     if "Tie as tie" not in text:
         return None
     names = Names(d)
+    names.fn = "::".join([crate] + path.split("/"))
     said = []
     mod = f"Rattle.{crate}.proofs.{path.replace('/', '.')}"
     pieces = declarations(text)

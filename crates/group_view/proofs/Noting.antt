@@ -1,12 +1,13 @@
 -- Lists of rows noted in a view: what it holds then.
-use Prim.Native.Nat.{ℕ, suc, ◌<◌, ◌≤◌}
-use mathlib.Core.Path.{◌≡◌, refl, sym, ap, ◌∙◌}
+use Prim.Native.Nat.{ℕ, suc, ◌+◌, ◌<◌, ◌≤◌}
+use native.Mathlib.Numerals.{add-one}
+use mathlib.Core.Path.{◌≡◌, refl, sym, ap, subst, ◌∙◌}
 use mathlib.Core.Bool.{Bool, true, false, not, ◌||◌, cond}
 use mathlib.Core.List.{List, [], ◌∷◌, ◌++◌, map, append-nil, append_assoc}
 use native.Mathlib.Omega.{arith}
 use lib.Dec.{ltb}
-use lib.ListN.{length, take, length-append, length-map}
-use lib.Seq.{take_all, take-append-le, length-take-le}
+use lib.ListN.{length, get_or, take, drop, length-append, length-map, drop_of_length-le}
+use lib.Seq.{drop-cons, take_all, take-append-le, length-take-le}
 use borrow.Author.Tests.{ltb-true, ltb-false, lt-ltb, le-ltb}
 use Rattle.rules.specs.Release.{malformed}
 use Rattle.laws.proofs.Lists.{or_left, or_right, or_true_left, or_true_right}
@@ -56,6 +57,15 @@ or_false true = refl
 or_false false = refl
 
 -- ---- all rows of a list
+
+module _ {R : Type 0} (Step : R → List ℕ → List ℕ → Type 0) where
+  -- the step at i, and those behind it
+  pub steps_next : (xs : List R) (i : ℕ) (d : R) (v u w : List ℕ) → i < length xs → Step (get_or xs i d) v u → Steps Step (drop (i + 1) xs) u w → Steps Step (drop i xs) v w
+  steps_next xs i d v u w h s k = rw (drop-cons xs i d) (u, (s, subst (λ n. Steps Step (drop n xs) u w) (add-one i) k))
+
+  -- none is left
+  pub steps_end : (xs : List R) (i : ℕ) (v : List ℕ) → length xs ≤ i → Steps Step (drop i xs) v v
+  steps_end xs i v h = rw (drop_of_length-le xs {i = i} h)
 
 module _ {R X : Type 0} (Step : R → List ℕ → List ℕ → Type 0) where
   pub steps_keep : (seen : List ℕ → X) → ((x : R) (v u : List ℕ) → Step x v u → seen u ≡ seen v) → (xs : List R) (v u : List ℕ) → Steps Step xs v u → seen u ≡ seen v

@@ -10,7 +10,7 @@ ghost use Rattle.guids.specs.Keys.{key_as};
 use guids::key::{Key, pack, same};
 
 // A counted row: a writer of a group and a reader that it is matched with.
-#[derive(Drop)]
+#[derive(Clone, Copy)]
 pub struct Pair {
     pub group: [u8; 16],
     pub writer: [u8; 16],
@@ -18,14 +18,14 @@ pub struct Pair {
 }
 
 // The digest of a group's discovered writers.
-#[derive(Drop)]
+#[derive(Clone, Copy)]
 pub struct DigestRow {
     pub group: [u8; 16],
     pub digest: u32,
 }
 
 // A counted row as the view has it.
-#[derive(Drop)]
+#[derive(Clone, Copy)]
 pub struct Counted {
     pub group: Key,
     pub writer: Key,

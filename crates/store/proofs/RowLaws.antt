@@ -1,5 +1,5 @@
 -- Rows of entries in the store's words: one row's parts, the first rows as a list, and what a row copied, pushed or taken out leaves.
-use Prim.Native.Nat.{ℕ, ◌+◌, ◌*◌, ◌-◌, ◌<◌, ◌≤◌}
+use Prim.Native.Nat.{ℕ, ◌+◌, ◌*◌, ◌<◌, ◌≤◌}
 use mathlib.Core.Path.{◌≡◌, refl, sym, ap, ◌∙◌}
 use mathlib.Core.Bool.{Bool, true, false, ◌&&◌, not, beq}
 use mathlib.Core.List.{List, [], ◌∷◌, ◌++◌, append-nil}
@@ -13,7 +13,7 @@ use lib.Seq.{paste, length-paste, drop-cons, drop-drop, take-suc, take-suc-set, 
 use mir.Syntax.{w64}
 use mir.Val.{Fits, SFits, to_z, of_z}
 use mir.ValLaws.{to_z-of_z, of_z-to_z}
-use borrow.Author.Tests.{eqb-true, eqb-false, eq-eqb, not-true, not-false}
+use borrow.Author.Tests.{eqb-true, eqb-false, eq-eqb}
 use Rattle.laws.specs.Whole.{eq_z}
 use Rattle.laws.proofs.Whole.{other_eq_z}
 use Rattle.laws.specs.Lists.{keep, find, index_of}
@@ -53,11 +53,11 @@ and_false true = refl
 and_false false = refl
 
 -- what an answer that is tested by `!` says of the test that it stands for
-pub passed : {r x : Bool} → r ≡ x → not r ≡ false → x ≡ true
-passed {r} e h = sym e ∙ not-false r h
+pub passed : {r x : Bool} → r ≡ x → r ≡ true → x ≡ true
+passed e h = sym e ∙ h
 
-pub failed : {r x : Bool} → r ≡ x → not r ≡ true → x ≡ false
-failed {r} e h = sym e ∙ not-true r h
+pub failed : {r x : Bool} → r ≡ x → r ≡ false → x ≡ false
+failed e h = sym e ∙ h
 
 module _ (l : List ℕ) (p : ℕ) where
   pub row_group : (row_of (take 12 (drop p l))).entry.group ≡ guid_of (get_or l p 0) (get_or l (p + 1) 0)

@@ -1,31 +1,25 @@
 -- Rows of the store as the entries of a stage: what a query takes out of them.
-use Prim.Native.Nat.{ℕ, zero, suc, ◌+◌, ◌-◌, ◌%◌, ◌^◌, ◌≤◌, ◌<◌, min}
+use Prim.Native.Nat.{ℕ, zero, suc, ◌+◌, ◌%◌, ◌≤◌, ◌<◌, min}
 use mathlib.Core.Path.{◌≡◌, refl, sym, ap, ap₂, ◌∙◌, fun_ext}
-use mathlib.Core.Bool.{Bool, true, false, ◌&&◌, ◌||◌, not, cond}
-use mathlib.Core.List.{List, [], ◌∷◌, ◌++◌}
+use mathlib.Core.Bool.{Bool, true, ◌&&◌, not, cond}
+use mathlib.Core.List.{List, [], ◌∷◌}
 use mathlib.Core.Option.{Option, some, none}
 use native.Mathlib.Omega.{arith}
-use lib.IntN.{ℤ}
 use lib.Dec.{eqb, ltb}
-use lib.ListN.{length, get_or, set, take, drop, length-map}
-use lib.Seq.{get_or-set_same, get_or-set_other}
+use lib.ListN.{length, get_or, drop, length-map}
 use borrow.Author.Tests.{ltb-true, lt-ltb}
-use Rattle.laws.specs.Lists.{all, any, keep, count, find, index_of}
-use Rattle.guids.specs.Guid.{Guid}
+use Rattle.laws.specs.Lists.{all, any, keep, count, find}
 use Rattle.rules.specs.Entry as E
-use Rattle.rules.specs.State.{State, Group, Writer, Counts, plus, stored}
-use Rattle.rules.specs.Offer.{one_late, entry_of, shares, replaced, marked, keep_end, mark_of, join, place, isStored, isJoined}
+use Rattle.rules.specs.State.{State, Group, Writer, Counts}
+use Rattle.rules.specs.Offer.{mark_of}
 use Rattle.laws.specs.Table.{rows, table}
-use Rattle.store.specs.Store.{Row, row_of, stage_of, row_at, rows_in, rows_of, staged, counts_of, state_of, live, row_mark}
-use Rattle.guids.specs.Keys.{key_as}
-use Rattle.store.specs.Records.{optional_as, what_as, moment_as, entry_as, row_as, fits, Asks, pair_in, Removed, Pushed}
+use Rattle.store.specs.Store.{Row, row_of, stage_of, rows_in, rows_of, staged, live, row_mark}
+use Rattle.store.specs.Records.{fits, Asks, Removed}
 use Rattle.store.specs.declared.query.Query.{Query}
-use Rattle.guids.specs.declared.key.Key.{Key}
-use Rattle.laws.proofs.Lists.{and_left, and_right, all_take, any_imp, keep_fewer, count_cons, count_nil, keep_keep, length_keep, map_o}
+use Rattle.laws.proofs.Lists.{and_left, and_right, all_take, count_cons, count_nil, keep_keep, length_keep, map_o}
 use Rattle.laws.proofs.Table.{all_rows}
-use Rattle.store.proofs.Queries.{index_le, find_within, find_past, staged_any, staged_find, staged_keep, staged_other, staged_last, staged_more, staged_same}
-use Rattle.store.proofs.RowLaws.{row_in, length_rows}
-use Rattle.store.proofs.StoreLaws.{rows_set, head_word, head_groups, head_writers, head_counts, groups_set_before, writers_set_before, rows_in_set, counts_set}
+use Rattle.store.proofs.Queries.{staged_any, staged_find, staged_keep, staged_other}
+use Rattle.store.proofs.RowLaws.{length_rows}
 
 -- ---- a state by its parts
 

@@ -15,7 +15,6 @@ use Rattle.rules.specs.declared.number.Marks.{Marks}
 use Rattle.guids.specs.declared.key.Key.{Key}
 use Rattle.store.specs.declared.entry.Optional.{Optional}
 use Rattle.store.specs.declared.entry.Optional.TheVariants.{Absent, Present}
-use Rattle.store.specs.declared.entry.SetEnd.{SetEnd}
 use Rattle.store.specs.declared.entry.What.{What}
 use Rattle.store.specs.declared.entry.What.TheVariants.{Sample, End}
 use Rattle.store.specs.declared.entry.Moment.{Moment}

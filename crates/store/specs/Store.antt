@@ -1,6 +1,6 @@
 -- What the words of a store mean. Every content means something: lengths stop at the tables' sizes, readers, items and numbers are taken
 -- modulo their ranges. Words past a length mean nothing.
-use Rattle.std.specs.Prelude.{ℕ, suc, ◌+◌, ◌*◌, ◌/◌, ◌%◌, ◌^◌, min, Bool, true, false, not, cond, List, map, ℤ, eqb, length, take, drop, get_or}
+use Rattle.std.specs.Prelude.{ℕ, ◌+◌, ◌*◌, ◌/◌, ◌%◌, ◌^◌, min, cond, List, map, ℤ, eqb, length, take, drop, get_or}
 use Rattle.std.proofs.Math.Option.{Option, some, none}
 use Rattle.std.specs.Int.{w64}
 use Rattle.std.proofs.Common.{to_z}

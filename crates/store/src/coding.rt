@@ -61,7 +61,7 @@ fn what_of(tags: u64, a: u64, b: u64) -> What
 }
 
 // A value that may be absent: whether it is there, and its word.
-#[derive(Drop)]
+#[derive(Clone, Copy)]
 struct Coded {
     tag: u64,
     word: u64,
@@ -91,7 +91,7 @@ fn code_moment(m: Moment) -> Coded
 }
 
 // A sample or an end: whether it is an end, and what it holds. A sample is told by its first word.
-#[derive(Drop)]
+#[derive(Clone, Copy)]
 struct CodedWhat {
     end: u64,
     first: Coded,

@@ -1,31 +1,31 @@
 // What the history stores of an offer.
 // A number that may be absent.
-#[derive(Drop)]
+#[derive(Clone, Copy)]
 pub enum Optional {
     Absent,
     Present(i64),
 }
 
 // The end of a coherent set: its writer's first number in the set, and its own.
-#[derive(Drop)]
+#[derive(Clone, Copy)]
 pub struct SetEnd {
     pub first: Optional,
     pub own: Optional,
 }
 
-#[derive(Drop)]
+#[derive(Clone, Copy)]
 pub enum What {
     Sample(u32),
     End(SetEnd),
 }
 
-#[derive(Drop)]
+#[derive(Clone, Copy)]
 pub enum Moment {
     Never,
     At(u64),
 }
 
-#[derive(Drop)]
+#[derive(Clone, Copy)]
 pub struct Entry {
     pub group: [u8; 16],
     pub writer: [u8; 16],

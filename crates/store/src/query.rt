@@ -7,7 +7,7 @@ ghost use Rattle.store.specs.Records.{Asks, pair_in, base};
 use guids::key::Key;
 
 // Each part is asked for only where its flag says so.
-#[derive(Drop)]
+#[derive(Clone, Copy)]
 pub struct Query {
     pub stage: u64,
     pub by_group: bool,

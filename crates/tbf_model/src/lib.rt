@@ -1,2 +1,3 @@
 // TbfHold of presentation.rs as a model in definitions, function by function (specs/Source.antt), and the proof that the filter
 // hold's definitions answer the same (specs/Claim.antt, proofs/Alike.antt). There is no code here.
+#![tactic(auto)]

@@ -1,0 +1,10 @@
+-- `note_pairs`: what the rows from i on do to the words is what all rows do to the words at the start.
+use Rattle.std.proofs.Common.{length, ◌-◌, ℕ, List, drop}
+use Rattle.group_view.specs.View.{Noted, Steps}
+use Rattle.group_view.proofs.view.note_pairs.Given as goal
+
+abbrev pub invariant-loop-i : goal.invariant-loop-i
+invariant-loop-i l = (z : List ℕ) → Steps Noted (drop l.i l.counted) l.view z → Steps Noted l.counted l.initial.view z
+
+abbrev pub decreases-loop-i : goal.decreases-loop-i
+decreases-loop-i l = length l.counted - l.i

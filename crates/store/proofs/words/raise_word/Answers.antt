@@ -1,0 +1,17 @@
+-- `store::words::raise_word` meets its contract: a word that is not below v stays.
+use Prim.Native.Nat.{max}
+use mathlib.Core.Path.{◌≡◌, sym, ◌∙◌, ap}
+use native.Mathlib.Omega.{arith}
+use lib.ListN.{get_or, set}
+use lib.Seq.{set-get_or}
+use Rattle.store.proofs.words.raise_word.Goals as goal
+
+pub returns-then-word-v : goal.returns-then-word-v
+returns-then-word-v c = let a = c.args in
+    let e : max (get_or a.store.now a.p 0) a.v ≡ a.v = omega arith in
+    record { is = c.put_word.ensures.is ∙ ap (set a.store.now a.p) (sym e); long = c.put_word.ensures.long }
+
+pub returns-else-word-v : goal.returns-else-word-v
+returns-else-word-v c = let a = c.args in
+    let e : max (get_or a.store.now a.p 0) a.v ≡ get_or a.store.now a.p 0 = omega arith in
+    record { is = sym (ap (set a.store.now a.p) e ∙ set-get_or a.store.now a.p 0); long = c.whole.ensures }
