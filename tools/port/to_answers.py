@@ -158,6 +158,10 @@ def turn_body(lines, names, place, said, args):
         pos = b
     out.append(text[pos:])
     text = "".join(out)
+    # a name for what a step was given: written out
+    for m in list(re.finditer(r"let\s+([A-Za-z_][\w']*)\s*=\s*([A-Za-z_][\w']*(?:\.[\w'-]+)*\.given)\s+in[ \n]?", text)):
+        text = text.replace(m.group(0), "")
+        text = re.sub(r"(?<![\w.'-])" + re.escape(m.group(1)) + r"(?=\.)", m.group(2), text)
     # lets left alone on a line
     text = re.sub(r"\n[ \t]*\n", "\n", text)
 

@@ -1,2 +1,4 @@
 // What is read of a history without changing it.
+#![tactic(auto)]
+
 pub mod readings;

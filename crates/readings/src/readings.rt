@@ -12,7 +12,7 @@ use store::rows::{any_row, count_rows, entry_count};
 use store::words::{Store, word};
 use store::writers::{find_writer, writer_count};
 
-#[derive(Drop)]
+#[derive(Clone, Copy)]
 pub struct ReleaseCounts {
     pub skipped_after_timeout: u64,
     pub incomplete_sets: u64,

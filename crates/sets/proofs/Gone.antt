@@ -1,6 +1,6 @@
 -- Rows that leave the history: one row or those that fit a query are gone, and what the stages' entries are then; the places of the samples that
 -- fit, written to a list; the entry at the first row that fits.
-use Prim.Native.Nat.{ℕ, zero, suc, ◌+◌, ◌*◌, ◌/◌, ◌%◌, ◌^◌, ◌-◌, ◌<◌, ◌≤◌, min}
+use Prim.Native.Nat.{ℕ, suc, ◌+◌, ◌*◌, ◌/◌, ◌%◌, ◌^◌, ◌-◌, ◌<◌, ◌≤◌, min}
 use mathlib.Core.Path.{◌≡◌, refl, sym, ap, ◌∙◌, fun_ext}
 use mathlib.Core.Logic.{◌≢◌}
 use mathlib.Core.Bool.{Bool, true, false, ◌&&◌, not, cond, and_assoc}
@@ -11,18 +11,18 @@ use native.Mathlib.Numerals.{add-one}
 use lib.IntN.{ℤ}
 use lib.Dec.{eqb, ltb}
 use lib.ListN.{length, get_or, set, take, drop, length-set, length-append, length-map, length-drop, take-append-drop, drop_of_length-le}
-use lib.Seq.{split_at, set_split, set_at, get_or_at, length-take-le, take-suc, drop-cons, append_snoc, get_or-set_same, get_or-set_other, take-set-le, get_or-take, take-take, take_all, take-append_seam}
+use lib.Seq.{split_at, set_split, set_at, get_or_at, length-take-le, take-suc, drop-cons, append_snoc, get_or-set_same, get_or-set_other, take-set-le, take-take, take_all, take-append_seam}
 use borrow.Author.Tests.{ltb-true, ltb-false, eqb-true, ne_eqb}
 use Rattle.laws.specs.Lists.{keep, all, count, find, index_of, is_some}
-use Rattle.rules.specs.Entry.{Entry, sample, set_end, is_sample, is_sample_w, marks}
+use Rattle.rules.specs.Entry.{Entry, sample, set_end, is_sample, marks}
 use Rattle.rules.specs.Run.{place_w, place_of}
-use Rattle.store.specs.Store.{Row, row_of, row_at, rows_in, staged, stage_of, tag, optional, group_of, writer_of, groups_of, writers_of, counts_of}
+use Rattle.store.specs.Store.{Row, row_of, row_at, rows_in, staged, stage_of, tag, optional}
 use Rattle.store.specs.Records.{fits, Asks}
 use Rattle.sets.specs.Tied.{found_at, gone, Left, Vacated, Written, WrittenIn}
 use Rattle.store.specs.declared.query.Query.{Query}
-use Rattle.laws.proofs.Lists.{keep_append, keep_last, keep_keep, keep_map, and_left, and_right, not_both, all_append, all_map, count_append, count_cons}
+use Rattle.laws.proofs.Lists.{keep_append, keep_last, keep_keep, keep_map, and_left, and_right, all_append, all_map, count_append, count_cons}
 use Rattle.store.proofs.Queries.{index_le, staged_at, staged_past, staged_keep, staged_other}
-use Rattle.laws.proofs.Table.{table_same, length_part, stored_set, word_at}
+use Rattle.laws.proofs.Table.{length_part, stored_set, word_at}
 use Rattle.store.proofs.RowLaws.{length_rows, row_in, rows_from, rows_more}
 use Rattle.store.proofs.Past.{row_past_lem, rows_few, set_past}
 

@@ -14,7 +14,7 @@ use Rattle.store.specs.Records.{fits, Asks}
 use Rattle.store.specs.declared.query.Query.{Query}
 use Rattle.sets.specs.Placed.{Placed, placed}
 use Rattle.sets.specs.Tied.{Spot, spot, gone, Left, Vacated, Stay, places}
-use Rattle.laws.proofs.Lists.{and_left, and_right, and_true, keep_all, keep_keep, keep_map, length_keep}
+use Rattle.laws.proofs.Lists.{and_left, keep_all, keep_keep, length_keep}
 
 -- ---- those that stay, of those that stayed
 

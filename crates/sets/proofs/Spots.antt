@@ -1,11 +1,9 @@
 -- Steps of a release one after the other: what each does to the work, the rows it needs and the places it wants.
-use Prim.Native.Nat.{ℕ, ◌+◌, ◌≤◌}
+use Prim.Native.Nat.{ℕ, ◌≤◌}
 use mathlib.Core.Path.{◌≡◌, refl, sym, subst, ◌∙◌}
-use mathlib.Core.List.{List}
-use lib.ListN.{length}
 use native.Mathlib.Omega.{arith}
 use Rattle.rules.specs.Release.{Work}
-use Rattle.sets.specs.Tied.{Spot, Tied, Fit, GoesBy, Goes, needs, wants}
+use Rattle.sets.specs.Tied.{Spot, Tied, Fit, Goes, needs, wants}
 
 module _ (i : ℕ) where
   -- nothing is done

@@ -1,5 +1,5 @@
 -- How the store and the lent list stand to the definitions' work while a release runs in one group.
-use Rattle.std.specs.Prelude.{ℕ, ◌+◌, ◌-◌, ◌≤◌, min, ltb, eqb, ◌≡◌, Bool, ◌&&◌, not, cond, List, [], ◌∷◌, ◌++◌, map, length, take, drop, get_or, set, ℤ}
+use Rattle.std.specs.Prelude.{ℕ, ◌+◌, ◌-◌, ◌≤◌, min, ltb, eqb, ◌≡◌, Bool, ◌&&◌, not, cond, List, [], ◌++◌, map, length, take, drop, get_or, set, ℤ}
 use Rattle.std.proofs.Math.Option.{Option, some, none}
 use Rattle.laws.specs.Lists.{count, keep, index_of, is_some}
 use Rattle.rules.specs.Entry.{Entry, is_sample, of_group}

@@ -7,21 +7,21 @@ use crate::setting::{Lifespan, Setting};
 use filter_hold::tbf::Separation;
 
 // How long a sample is valid; absent as the lifespan is.
-#[derive(Drop)]
+#[derive(Clone, Copy)]
 pub enum Validity {
     Nanoseconds(u64),
     Absent,
 }
 
 // The history's timeout in nanoseconds, the filter's separation, the lifespan.
-#[derive(Drop)]
+#[derive(Clone, Copy)]
 pub struct Durations {
     pub timeout: u64,
     pub separation: Separation,
     pub lifespan: Validity,
 }
 
-#[derive(Drop)]
+#[derive(Clone, Copy)]
 pub enum DurationsAnswer {
     Fitting(Durations),
     TooWide,

@@ -6,14 +6,14 @@ ghost use Rattle.settings.specs.Setting.{value_of, fits, pack, packed_as, settin
 
 use decimal::put_bytes;
 
-#[derive(Drop)]
+#[derive(Clone, Copy)]
 pub enum Lifespan {
     Seconds(u64),
     Absent,
 }
 
 // A setting's values: timeout in units of 10 ms, marks of readers, separation in ms, lifespan in seconds.
-#[derive(Drop)]
+#[derive(Clone, Copy)]
 pub struct Setting {
     pub timeout: u64,
     pub coherent: u64,
@@ -22,7 +22,7 @@ pub struct Setting {
     pub lifespan: Lifespan,
 }
 
-#[derive(Drop)]
+#[derive(Clone, Copy)]
 pub enum PackAnswer {
     Packed(usize),
     TooWide,

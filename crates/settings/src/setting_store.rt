@@ -5,13 +5,13 @@ ghost use Rattle.settings.specs.Store.{nothing, store_as, saved, save, saving_as
 use crate::setting::{Lifespan, Setting, good_length, setting_in};
 
 // The first len are stored, the newest first; len above 8 counts as 8.
-#[derive(Drop)]
+#[derive(Clone, Copy)]
 pub struct SettingStore {
     pub len: usize,
     pub kept: [Setting; 8],
 }
 
-#[derive(Drop)]
+#[derive(Clone, Copy)]
 pub enum SaveAnswer {
     Saved,
     BadVersion,
@@ -19,13 +19,13 @@ pub enum SaveAnswer {
 }
 
 // How a save ended, with the store after it.
-#[derive(Drop)]
+#[derive(Clone, Copy)]
 pub struct Saving {
     pub answer: SaveAnswer,
     pub store: SettingStore,
 }
 
-#[derive(Drop)]
+#[derive(Clone, Copy)]
 pub enum ReadAnswer {
     Stored(Setting),
     NotStored,
