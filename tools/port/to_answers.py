@@ -174,6 +174,9 @@ def turn_body(lines, names, place, said, args):
             k += 1
             rest.pop(0)
         if not rest:
+            ch = names.chain(place)
+            if k < len(ch):
+                return f"«{ch[k]}»"
             said.append(f"a whole record: {m.group(0)}")
             return m.group(0)
         names.found = None
@@ -232,6 +235,13 @@ def turn_body(lines, names, place, said, args):
         stepped(m)
     text = PATH.sub(path, text)
     text = text.replace(".type-inv", ".type_inv")
+    text = re.sub(r"c\.type_inv\.[\w'-]+(?:\.[01])+(?![\w.])", "(search rules)", text)
+    text = re.sub(r"c\.[\w'-]+\.given\.0\.1(?![\w.])", "(search rules)", text)
+    text = re.sub(r"record \{ sfits = \(search rules\) \}", "search rules", text)
+    for a, b in FIELDS.items():
+        if a in text:
+            text = re.sub(r"(?<=\.)" + re.escape(a) + r"(?![\w'-])", b, text)
+            text = re.sub(r"(?<![\w.'-])" + re.escape(a) + r"(?= = )", b, text)
     text = re.sub(r"not-(?:true|false)\s+(?:\([^()]*\)|[^\s()]+)\s+(c\.if-not-[^\s)]*\.(?:true|false))(?![\w'-])", r"\1", text)
     for v, fn in callees.items():
         def clause(m):
@@ -283,6 +293,66 @@ def parameters(crate, path):
     return []
 
 
+ATOM = r"(?:[A-Za-z_][\w']*(?:\.before)*|\([A-Za-z_][\w']*(?:\.before)*\))"
+
+
+def bare(a):
+    return a[1:-1] if a.startswith("(") else a
+
+
+def expand(text):
+    """Writes out names for places (start c = c.before.before) and for what is read there (S c = state_of c.args.x)."""
+    nav, macro = {}, {}
+    piece = re.compile(r"(?m)^((?:abbrev )?)([^\s:(){}]+) : (tie\.\S+(?: (?:invariant|decreases)-\S+)*) → ([^\n]*(?:\n  [^\n]*)*)\n((?:unfolding [^\n]*\n)?)\2 (\w+) =([^\n]*(?:\n[ ]+[^\n]*)*)\n?")
+    for m in list(piece.finditer(text)):
+        name, res, v, body = m.group(2), m.group(4), m.group(6), m.group(7).strip()
+        if res.startswith("tie.") and re.fullmatch(re.escape(v) + r"(\.before)*|[^\s(]+ \(?[\w.]+\)?", body):
+            nav[name] = (v, body)
+        elif m.group(1):
+            macro[name] = (v, body)
+        else:
+            continue
+        text = text.replace(m.group(0), "")
+    if not nav and not macro:
+        return text
+    for _ in range(30):
+        before = text
+        for n, (v, body) in nav.items():
+            def go(m):
+                a = bare(m.group(1))
+                b = re.sub(r"(?<![\w.'-])" + re.escape(v) + r"(?![\w'-])", a, body)
+                return b if re.fullmatch(ATOM, b) else "(" + b + ")"
+            text = re.sub(r"(?<![\w.'-])" + re.escape(n) + r" (" + ATOM + r")(?![\w'-])", go, text)
+        text = re.sub(r"\(([A-Za-z_][\w']*(?:\.before)+)\)", r"\1", text)
+        for n, (v, body) in macro.items():
+            def put(m):
+                a = bare(m.group(1))
+                return "(" + re.sub(r"(?<![\w.'-])" + re.escape(v) + r"(?![\w'-])", a, body) + ")"
+            text = re.sub(r"(?<![\w.'-])" + re.escape(n) + r" (" + ATOM + r")(?![\w'-])", put, text)
+        # a name for a place inside a body: let a = asked c in
+        for m in list(re.finditer(r"let ([A-Za-z_][\w']*) = ([A-Za-z_][\w']*(?:\.before)*) in[ \n]?", text)):
+            pass
+        if text == before:
+            break
+    text = re.sub(r"\(\(([^()]*)\)\)", r"(\1)", text)
+    return text
+
+
+def places_in_bodies(text):
+    """let a = c.before.before in: written out in each declaration, so that (S a) can be expanded."""
+    out = []
+    for part in re.split(r"(?m)(?=^(?:pub |abbrev )*[^\s:(){}]+ : )", text):
+        for _ in range(20):
+            m = re.search(r"let ([A-Za-z_][\w']*) = ([A-Za-z_][\w']*(?:\.before)*) in[ \n]?", part)
+            if not m:
+                break
+            rest = part[m.end():]
+            rest = re.sub(r"(?<![\w.'-])" + re.escape(m.group(1)) + r"(?![\w'-])", m.group(2), rest)
+            part = part[: m.start()] + rest
+        out.append(part)
+    return "".join(out)
+
+
 def clause_names(root="."):
     """The names of the clauses of each function, where a kind has several: {(crate, words): {kind: [names]}}."""
     got = {}
@@ -314,6 +384,26 @@ def clause_names(root="."):
 CLAUSES = clause_names()
 
 
+def record_fields(root="."):
+    got = {}
+    renamed = dict(l.rstrip("\n").split("\t") for l in open(f"{root}/tools/port/renamed.tsv", encoding="utf-8"))
+    found = set()
+    for c in os.listdir(f"{root}/crates"):
+        for sub in ("specs", "proofs"):
+            top = f"{root}/crates/{c}/{sub}"
+            if not os.path.isdir(top):
+                continue
+            for f in os.listdir(top):
+                if f.endswith(".antt"):
+                    t = open(f"{top}/{f}", encoding="utf-8").read()
+                    for m in re.finditer(r"record [^\n]*where\n((?:[ ]+[^\n]*\n|\n)*)", t):
+                        found |= set(re.findall(r"(?m)^\s+(?:pub )?([\w']+)\s*:", m.group(1)))
+    return {a: b for a, b in renamed.items() if "-" in a and b in found}
+
+
+FIELDS = record_fields()
+
+
 def named(rest, fn):
     """ensures.1.0 of several named clauses: the clause's name."""
     for i in (0, 1):
@@ -338,6 +428,18 @@ def turn(crate, path, d, root="."):
     text = open(f"{folder}/Proof.antt", encoding="utf-8").read()
     if "Tie as tie" not in text:
         return None
+    if re.search(r"(?m)^(?:abbrev )?[^\s:(){}]+ : tie\.\S+(?: (?:invariant|decreases)-\S+)* → ", text):
+        for _ in range(6):
+            new = places_in_bodies(expand(text)) if "KEEP" not in text else text
+            if _ == 0:
+                kept = text
+            if new == text:
+                break
+            text = new
+            # definitions were taken out at the first turn: keep them for the next ones
+            defs = "".join(m.group(0) for m in re.finditer(r"(?m)^(?:abbrev )?([^\s:(){}]+) : tie\.\S+(?: (?:invariant|decreases)-\S+)* → (?:[^\n]*(?:\n  [^\n]*)*)\n(?:unfolding [^\n]*\n)?\1 \w+ =[^\n]*(?:\n[ ]+[^\n]*)*\n?", kept))
+            text = defs + "\n" + text
+        text = expand(text)
     names = Names(d)
     names.fn = "::".join([crate] + path.split("/"))
     said = []
@@ -429,7 +531,7 @@ def turn(crate, path, d, root="."):
                 continue
             if "reads." in t or "lts." in t or "tie." in t:
                 said.append(f"a helper over a place: {name} : {t[:200]}")
-                m3 = re.search(r"(?:lts|tie)\.([^\s]+)", t)
+                m3 = re.search(r"(?:lts|tie)\.([^\s)]+)", t)
                 place = None
                 if m3:
                     for p in names.old:
@@ -438,7 +540,7 @@ def turn(crate, path, d, root="."):
                 if place:
                     newp = names.newplace[place]
                     helpers[name] = newp
-                    t2 = re.sub(r"(?:lts|tie)\.[^\s]+(?:\s+reads\.Pre\s+reads\.Post)?(?:\s+(?:invariant|decreases)-[^\s)]+)*", newp, t)
+                    t2 = re.sub(r"(?:lts|tie)\.[^\s)]+(?:\s+reads\.Pre\s+reads\.Post)?(?:\s+(?:invariant|decreases)-[^\s)]+)*", newp, t)
                     tl = turn_body([t2], names, place, said, args)
                     bl = turn_body(body, names, place, said, args)
                     ans += comment + [f"-- of the place {newp}", f"{mods}{name} : {tl[0]}"] + bl + [""]
@@ -475,16 +577,29 @@ def turn(crate, path, d, root="."):
     ans = flat
     if helpers:
         uses.append(f"use {mod}.Goals.{{{', '.join(sorted(set(helpers.values())))}}}")
-        goal_now = None
+        goal_now, at_place = None, None
         for i, l in enumerate(ans):
             m = re.match(r"pub (\S+) : goal\.\1$", l)
+            m2 = re.match(r"-- of the place (\S+)$", l)
             if m:
-                goal_now = m.group(1)
-            elif re.match(r"\S+ : ", l):
+                goal_now, at_place = m.group(1), None
+            elif m2:
+                at_place, goal_now = m2.group(1), None
+            elif re.match(r"\S+ : ", l) and not at_place:
                 goal_now = None
-            elif goal_now:
-                for h, p in helpers.items():
-                    ans[i] = re.sub(r"(?<![\w.'-])" + re.escape(h) + r" c(?![\w.'-])", f"{h} (goal.at.{goal_now} c).{p}", ans[i])
+            back = {v: k for k, v in names.newplace.items()}
+            for h, p in helpers.items():
+                def call(g):
+                    if goal_now:
+                        return f"{h} (goal.at.{goal_now} c).{p}"
+                    if at_place:
+                        ch = names.chain(back[at_place])
+                        n = ch.index(back[p]) if back[p] in ch else 0
+                        return f"{h} c" + ".before" * n
+                    return g.group(0)
+                ans[i] = re.sub(r"(?<![\w.'-])" + re.escape(h) + r" (?:c(?![\w.'-])|«[^»]*»)", call, ans[i])
+            for w in re.findall(r"«[^»]*»", ans[i]):
+                said.append(f"a whole record {w} in {goal_now or at_place}")
     old = f"/tmp/old-proofs/{crate}/{path}"
     os.makedirs(old, exist_ok=True)
     shutil.move(f"{folder}/Proof.antt", f"{old}/Proof.antt")

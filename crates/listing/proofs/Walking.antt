@@ -1,11 +1,11 @@
 -- The entries of a number at the front of a list of places, one after the other; the marks of their readers.
-use Prim.Native.Nat.{ℕ, zero, suc, ◌+◌, ◌-◌, ◌%◌, ◌≤◌, ◌<◌}
+use Prim.Native.Nat.{ℕ, zero, suc, ◌+◌, ◌%◌, ◌≤◌, ◌<◌}
 use mathlib.Core.Path.{◌≡◌, refl, sym, ap, ◌∙◌}
-use mathlib.Core.Bool.{Bool, true, false, ◌&&◌, ◌||◌, not, cond}
-use mathlib.Core.List.{List, [], ◌∷◌, ◌++◌, map}
+use mathlib.Core.Bool.{Bool, true, false, ◌&&◌, ◌||◌, cond}
+use mathlib.Core.List.{List, [], ◌∷◌, map}
 use mathlib.Core.Option.{some}
 use native.Mathlib.Omega.{arith}
-use lib.Dec.{eqb, leb, ltb}
+use lib.Dec.{eqb, leb}
 use lib.ListN.{length, get_or, drop, set, drop_of_length-le}
 use lib.Seq.{drop-cons, get_or-set_same, get_or-set_other}
 use borrow.Author.Tests.{eqb-true, eq-eqb, ne_eqb}
@@ -13,7 +13,7 @@ use Rattle.laws.specs.Lists.{keep, all, any}
 use Rattle.guids.specs.Guid.{Guid}
 use Rattle.rules.specs.Entry.{Entry, of_group}
 use Rattle.rules.specs.Commit.{lowest_number}
-use Rattle.laws.proofs.Lists.{not_both, and_left, and_right}
+use Rattle.laws.proofs.Lists.{not_both, and_right}
 use Rattle.store.specs.Store.{row_at, rows_in, staged}
 use Rattle.sets.specs.Ready.{head_for}
 use Rattle.sets.specs.Placed.{Placed, placed}

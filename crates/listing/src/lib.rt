@@ -1,2 +1,4 @@
 // The pending rows of a group in the order of their numbers.
+#![tactic(auto)]
+
 pub mod listing;

@@ -14,7 +14,6 @@ use Rattle.store.specs.Records.{entry_as, row_as, Asks, Removed}
 use Rattle.offers.specs.Steps.{Roomy, Appended, with_late}
 use Rattle.store.specs.declared.entry.Entry.{Entry}
 use Rattle.store.specs.declared.query.Query.{Query}
-use Rattle.laws.proofs.Table.{all_rows}
 use Rattle.store.proofs.Queries.{staged_last, staged_more, staged_same}
 use Rattle.store.proofs.RowLaws.{Behind}
 use Rattle.store.proofs.StoreLaws.{rows_set, head_word, head_groups, head_writers, head_counts, groups_set_before, writers_set_before, rows_in_set, counts_set}

@@ -1,7 +1,7 @@
 // What an offer, a heartbeat and a gap bring, and what they answer.
 use store::entry::{Optional, What};
 
-#[derive(Drop)]
+#[derive(Clone, Copy)]
 pub struct Offer {
     pub group: [u8; 16],
     pub writer: [u8; 16],
@@ -13,7 +13,7 @@ pub struct Offer {
     pub time: u64,
 }
 
-#[derive(Drop)]
+#[derive(Clone, Copy)]
 pub enum Offered {
     Stored,
     Joined,
@@ -24,13 +24,13 @@ pub enum Offered {
     Full,
 }
 
-#[derive(Drop)]
+#[derive(Clone, Copy)]
 pub enum Digest {
     Absent,
     Present(u32),
 }
 
-#[derive(Drop)]
+#[derive(Clone, Copy)]
 pub struct Heartbeat {
     pub group: [u8; 16],
     pub writer: [u8; 16],
@@ -41,7 +41,7 @@ pub struct Heartbeat {
     pub secure: Digest,
 }
 
-#[derive(Drop)]
+#[derive(Clone, Copy)]
 pub struct Gap {
     pub group: [u8; 16],
     pub writer: [u8; 16],
@@ -49,7 +49,7 @@ pub struct Gap {
     pub number: i64,
 }
 
-#[derive(Drop)]
+#[derive(Clone, Copy)]
 pub enum Accepted {
     Done,
     ReaderAboveSeven,

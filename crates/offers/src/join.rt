@@ -18,7 +18,7 @@ use store::rows::{any_row, entry_count, find_row, remove_rows};
 use store::words::Store;
 
 // Whether an offer at or below committed joins an open set, and whether it replaces its pair's end there.
-#[derive(Drop)]
+#[derive(Clone, Copy)]
 pub(crate) enum Joining {
     Nothing,
     Replaces,
@@ -70,7 +70,7 @@ fn mark_of(store: &Store, n: usize, q: Query) -> Moment
 // An end joins its set, which it has, in place of its pair's earlier end, and takes that one's mark over.
 pub(crate) fn join_end(store: &mut Store, group: Key, writer: Key, e: Entry)
     requires { MayJoin (key_as group) (key_as writer) e (state_of store.old) }
-    ensures is { state_of store.new ≡ place isJoined (entry_as e) (state_of store.old) }
+    ensures { state_of store.new ≡ place isJoined (entry_as e) (state_of store.old) }
 {
     let n = entry_count(store);
     let group_bytes = e.group;

@@ -1,4 +1,6 @@
 // Offers, heartbeats and gaps of the history: what they change in its store, and what they answer.
+#![tactic(auto)]
+
 mod append;
 pub mod call;
 pub mod gap;

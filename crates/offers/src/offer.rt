@@ -112,7 +112,7 @@ fn judge(store: &Store, group: Key, writer: Key, o: Offer) -> Offered
 // The marks of an offer that is not refused.
 fn note_offer(store: &mut Store, group: Key, writer: Key, reader: u8, number: u64, digest: u32)
     requires { Admits (key_as group) (key_as writer) reader (state_of store.old) }
-    ensures is { state_of store.new
+    ensures { state_of store.new
         ≡ noted (key_as group) (key_as writer) reader number digest (state_of store.old) }
 {
     hear_group(store, group);
@@ -122,7 +122,7 @@ fn note_offer(store: &mut Store, group: Key, writer: Key, reader: u8, number: u6
 
 fn store_pending(store: &mut Store, e: Entry)
     requires { (stored (state_of store.old) < 256) × (e.number < 2 ^ 63) }
-    ensures is { state_of store.new ≡ place isStored (entry_as e) (state_of store.old) }
+    ensures { state_of store.new ≡ place isStored (entry_as e) (state_of store.old) }
 {
     let n = entry_count(store);
     append(store, n, e, 0);
@@ -131,7 +131,7 @@ fn store_pending(store: &mut Store, e: Entry)
 // A late offer is heard all the same, and counted.
 fn note_late(store: &mut Store, group: Key, writer: Key, reader: u8, number: u64, digest: u32)
     requires { Admits (key_as group) (key_as writer) reader (state_of store.old) }
-    ensures is { state_of store.new
+    ensures { state_of store.new
         ≡ with_late (noted (key_as group) (key_as writer) reader number digest (state_of store.old)) }
 {
     note_offer(store, group, writer, reader, number, digest);
@@ -139,7 +139,7 @@ fn note_late(store: &mut Store, group: Key, writer: Key, reader: u8, number: u64
 }
 
 fn count_late(store: &mut Store)
-    ensures is { state_of store.new ≡ with_late (state_of store.old) }
+    ensures { state_of store.new ≡ with_late (state_of store.old) }
 {
     whole(store);
     let late = word(store, 7);

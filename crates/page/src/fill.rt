@@ -18,7 +18,7 @@ use store::rows::{entry_count, fits_at};
 use store::words::Store;
 
 // The number of entries read, or why the list was not written.
-#[derive(Drop)]
+#[derive(Clone, Copy)]
 pub enum Paged {
     Filled(usize),
     ListTooShort,

@@ -8,7 +8,7 @@ pub const ROWS: usize = 64;
 pub const ROW: usize = 4;
 
 // The words of a row. Tag 0: no group is known there; 1: it has no sample, so no oldest time; 2: it has samples.
-#[derive(Drop)]
+#[derive(Clone, Copy)]
 pub(crate) struct PageRow {
     pub tag: u64,
     pub pending: u64,

@@ -1,39 +1,27 @@
 -- What a turn asks of the store.
-use Prim.Native.Nat.{ℕ, suc, ◌+◌, ◌-◌, ◌*◌, ◌%◌, ◌^◌, ◌<◌, ◌≤◌}
-use mathlib.Core.Path.{◌≡◌, refl, sym, ap, ap₂, subst, ◌∙◌}
-use mathlib.Core.Bool.{Bool, true, false, ◌&&◌, ◌||◌}
-use mathlib.Core.List.{List, []}
-use mathlib.Core.Option.{Option, some, none}
+use Prim.Native.Nat.{ℕ, suc, ◌+◌, ◌-◌, ◌*◌, ◌<◌, ◌≤◌}
+use mathlib.Core.Path.{◌≡◌, sym, ap, ap₂, ◌∙◌}
+use mathlib.Core.Bool.{true, ◌&&◌, ◌||◌}
+use mathlib.Core.List.{List}
+use mathlib.Core.Option.{some}
 use native.Mathlib.Omega.{arith}
 use lib.Dec.{eqb, leb, ltb}
-use lib.ListN.{length, get_or, set, take, drop, length-set}
-use lib.Seq.{set-set, get_or-set_same, get_or-set_other}
-use borrow.Author.Tests.{eqb-true, lt-ltb}
-use Rattle.laws.specs.Lists.{all, any, keep, find, index_of, is_some}
+use lib.ListN.{length, get_or, drop}
+use Rattle.laws.specs.Lists.{all, keep}
 use Rattle.guids.specs.Guid.{Guid}
 use Rattle.rules.specs.Entry.{Entry, of_group}
-use Rattle.rules.specs.State.{Group, new_group, writer_of, plus}
+use Rattle.rules.specs.State.{Group, writer_of}
 use Rattle.rules.specs.Marks.{past_of}
-use Rattle.rules.specs.Sets.{lowest_ended}
-use Rattle.rules.specs.Commit.{Turn, all_from, pair_past, digests_accepted, ruled_out, copies_arrived, is_head, head_of, lowest_number, next, ready}
-use Rattle.rules.specs.Release.{Work, turn_of, skip, committed_at, commit, commit_if, head_step, end_step, round, or_stop, waited, young}
-use Rattle.store.specs.Store.{Row, group_of, row_of, row_at, rows_in, staged, groups_of, writers_of, counts_of, live}
+use Rattle.rules.specs.Commit.{all_from, pair_past, digests_accepted, ruled_out, copies_arrived, is_head, head_of, lowest_number, ready}
+use Rattle.rules.specs.Release.{turn_of}
+use Rattle.store.specs.Store.{group_of, rows_in, staged, groups_of, writers_of}
 use Rattle.group_view.specs.View.{digests_of, pairs_of, pairs_for, view_of}
-use Rattle.store.specs.Records.{Asks, Removed}
 use Rattle.sets.specs.Ready.{digests_fine, head_for, arrived_for, arrived, arrived_over, ruled_for, ready_over}
 use Rattle.ready.proofs.Copying.{arrived_over_lem, kept_small}
 use Rattle.listing.specs.Listing.{Listed, heads_in}
 use Rattle.listing.proofs.Walking.{heads_listed}
-use Rattle.sets.specs.Tied.{Spot, spot, group_at, Carries, Tied, Fit, Goes, Counted, Rounds, round_to, Compacted, needs, wants, turn_at, head_at, found_at, with_pending, commit_heads}
-use Rattle.store.specs.declared.query.Query.{Query}
-use Rattle.laws.proofs.Lists.{and_right, not_both, find_any, find_test}
-use Rattle.rules.proofs.Minima.{lowest_number_attained}
-use Rattle.laws.proofs.Table.{length_part}
-use Rattle.store.proofs.Queries.{index_le, any_keep, staged_at, staged_past}
-use Rattle.store.proofs.RowLaws.{length_rows, row_in}
-use Rattle.sets.proofs.Spots.{goes_none, goes_then, goes_as}
-use Rattle.store.proofs.Asked.{staged_le}
-use Rattle.store.proofs.StoreLaws.{head_word, head_groups, head_writers, head_counts, few_groups, group_at_lem, group_word, group_committed, groups_set, groups_set_before, writers_set_before, rows_in_set}
+use Rattle.sets.specs.Tied.{group_at, turn_at}
+use Rattle.store.proofs.StoreLaws.{group_at_lem, group_word}
 
 -- ---- what a turn asks
 

@@ -1,7 +1,7 @@
 -- When a number is ready: what a writer's marks say, walks over numbers and lists exchanged, and the loops over rows.
 use Prim.Native.Nat.{ℕ, zero, suc, ◌+◌, ◌-◌, ◌<◌, ◌≤◌, min}
 use mathlib.Core.Path.{◌≡◌, refl, sym, ap, ◌∙◌}
-use mathlib.Core.Bool.{Bool, true, false, ◌&&◌, ◌||◌, not, cond}
+use mathlib.Core.Bool.{Bool, true, false, ◌&&◌, not}
 use mathlib.Core.List.{List, [], ◌∷◌}
 use mathlib.Core.Option.{Option, some, none}
 use native.Mathlib.Omega.{arith}
@@ -16,7 +16,6 @@ use Rattle.rules.specs.Entry.{Entry}
 use Rattle.rules.specs.State.{Writer, is_writer, writer_of, new_writer}
 use Rattle.rules.specs.Marks.{past_marks, past, past_of}
 use Rattle.rules.specs.Commit.{DigestRow, all_from, lowest_open}
-use Rattle.rules.specs.Sets.{Pair}
 use Rattle.store.specs.Store.{writers_of}
 use Rattle.group_view.specs.View.{pair_of, pairs_of, pairs_for, PairAt}
 use Rattle.sets.specs.Ready.{pair_from, row_past, writer_fine, digests_fine, row_copied, arrived_over}

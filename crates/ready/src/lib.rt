@@ -1,2 +1,4 @@
 // Whether a number is ready.
+#![tactic(auto)]
+
 pub mod ready;

@@ -1,22 +1,22 @@
 -- The heads of a number committed along the list of the pending rows.
 use Prim.Native.Nat.{ℕ, suc, ◌+◌, ◌<◌, ◌≤◌}
-use mathlib.Core.Path.{◌≡◌, refl, sym, ap, ◌∙◌}
-use mathlib.Core.Bool.{Bool, true, not}
-use mathlib.Core.List.{List, []}
+use mathlib.Core.Path.{◌≡◌, ap, ◌∙◌}
+use mathlib.Core.Bool.{true, not}
+use mathlib.Core.List.{List}
 use mathlib.Core.Option.{some}
 use native.Mathlib.Omega.{arith}
 use lib.Dec.{eqb}
-use lib.ListN.{length, get_or, drop}
+use lib.ListN.{get_or, drop}
 use Rattle.laws.specs.Lists.{keep, count}
 use Rattle.guids.specs.Guid.{Guid}
-use Rattle.rules.specs.Entry.{Entry, of_group}
+use Rattle.rules.specs.Entry.{of_group}
 use Rattle.rules.specs.Commit.{lowest_number}
 use Rattle.rules.specs.Release.{commit_one}
 use Rattle.laws.proofs.Lists.{length_keep}
 use Rattle.store.specs.Store.{row_at, rows_in, staged}
 use Rattle.store.proofs.RowLaws.{length_rows}
 use Rattle.store.proofs.Asked.{staged_le}
-use Rattle.sets.specs.Placed.{Placed, placed}
+use Rattle.sets.specs.Placed.{placed}
 use Rattle.sets.specs.Tied.{Spot, spot, Fit, Goes, head_at, with_pending, commit_heads}
 use Rattle.sets.proofs.Spots.{fit_rows}
 use Rattle.listing.specs.Listing.{number_of, sorted, Listed}

@@ -1,6 +1,6 @@
 -- What a release remembers of the held entries, from one commit to the next.
-use Prim.Native.Nat.{ℕ, ◌+◌, ◌<◌, ◌≤◌}
-use mathlib.Core.Path.{◌≡◌, refl, sym, ap, ap₂, subst, ◌∙◌}
+use Prim.Native.Nat.{ℕ}
+use mathlib.Core.Path.{◌≡◌, refl, sym, ap, ap₂, ◌∙◌}
 use mathlib.Core.Bool.{Bool, true, false, ◌&&◌, ◌||◌, not, cond}
 use mathlib.Core.List.{List, [], ◌∷◌, ◌++◌}
 use mathlib.Core.Option.{Option, some, none}
@@ -19,7 +19,7 @@ use Rattle.rules.proofs.Fuel.{stale_fuel}
 use Rattle.rules.proofs.Minima.{eq_z_eq}
 use Rattle.store.proofs.RowLaws.{same_eq_z}
 use Rattle.store.specs.Store.{row_at, rows_in, staged}
-use Rattle.sets.specs.Tied.{Spot, spot, at, Tied, Goes, Stalest, StaleGone, with_pending}
+use Rattle.sets.specs.Tied.{Spot, spot, at, Goes, Stalest, StaleGone, with_pending}
 use Rattle.sets.proofs.Stands.{begun, work_at, stands}
 use Rattle.steps.specs.Known.{Known, Covers, plain, own_after}
 use Rattle.guids.proofs.Guids.{same_eq, same_refl}

@@ -11,7 +11,7 @@ use lib.Dec.{eqb}
 use lib.ListN.{length, set, take, drop, length-set, length-append, take-append-drop}
 use lib.Seq.{take-suc-set, drop-set-lt, drop-drop}
 use borrow.Author.Tests.{eqb-true}
-use Rattle.laws.specs.Lists.{keep, any, count, find, index_of, is_some}
+use Rattle.laws.specs.Lists.{keep, count, find, index_of}
 use Rattle.guids.specs.Guid.{Guid, same_guid}
 use Rattle.rules.specs.Entry.{Entry, What, sample, set_end, is_sample, is_sample_w, of_group, in_set, of_pair, is_end_of, same_set, marks}
 use Rattle.rules.specs.Offer.{shares, replaced, marked, keep_end}
@@ -19,20 +19,20 @@ use Rattle.rules.specs.Sets.{lowest_stale}
 use Rattle.rules.specs.Release.{Work, discard, discard_or, discard_stale, with_held, with_out, mark_or, settle, commit_one, commit_all}
 use Rattle.rules.specs.Run.{place_w, place_of}
 use Rattle.store.specs.Store.{Row, row_of, row_at, rows_in, staged}
-use Rattle.store.specs.Records.{Asks, pair_in, fits}
+use Rattle.store.specs.Records.{Asks, pair_in}
 use Rattle.sets.specs.Ready.{head_for}
 use Rattle.sets.specs.Placed.{placed}
 use Rattle.sets.proofs.Places.{stay_rows, stay_left, vacated_places, left_places, pushed_places}
 use Rattle.sets.specs.Tied.{Spot, spot, at, places, Tied, GoesBy, Goes, GoesRows, Fit, Left, Vacated, gone, needs, wants, with_pending, head_at, commit_heads}
 use Rattle.sets.proofs.Stands.{goes_places}
 use Rattle.store.specs.declared.query.Query.{Query}
-use Rattle.laws.proofs.Lists.{count_append, count_cons, count_keep, count_last, count_one, and_left, and_right, keep_append, keep_none, find_any}
+use Rattle.laws.proofs.Lists.{count_append, count_cons, count_keep, count_last, count_one, and_left, and_right, keep_append}
 use Rattle.guids.proofs.Guids.{same_eq}
 use Rattle.rules.proofs.Fuel.{settle_pending, stale_pending}
 use Rattle.store.proofs.Queries.{index_le, staged_at, staged_past, staged_more, staged_same}
 use Rattle.store.proofs.RowLaws.{Behind, length_rows, row_in}
 use Rattle.store.proofs.StoreLaws.{head_groups, head_writers, head_counts, head_word}
-use Rattle.sets.proofs.Gone.{vacated_stage, vacated_other, staged_split, gone_split, gone_same, kept_entries, index_front, index_passes}
+use Rattle.sets.proofs.Gone.{vacated_stage, vacated_other, staged_split, gone_split, gone_same, index_front, index_passes}
 use Rattle.steps.proofs.Lowest.{passing_staged}
 use Rattle.sets.proofs.Spots.{fit_after}
 

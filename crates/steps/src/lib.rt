@@ -1,2 +1,4 @@
 // The steps of a release.
+#![tactic(auto)]
+
 pub mod steps;

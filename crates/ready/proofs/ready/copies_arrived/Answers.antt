@@ -1,0 +1,23 @@
+use mathlib.Core.Path.{sym, ◌∙◌}
+use native.Mathlib.Omega.{arith}
+use Rattle.laws.proofs.Loops.{all_hit, all_miss}
+use Rattle.store.proofs.RowLaws.{passed, failed}
+use Rattle.ready.proofs.ReadyLaws.{all_end, pair_from_lem, rows_copied}
+use Rattle.ready.proofs.ready.copies_arrived.Goals as goal
+
+pub loop-i-init : goal.loop-i-init
+loop-i-init c = rows_copied _ _ _ _ _
+
+pub row_copied-requires : goal.row_copied-requires
+row_copied-requires c = (omega arith, c.readers_of-marks.ensures)
+
+pub returns-then-not-row_copied : goal.returns-then-not-row_copied
+returns-then-not-row_copied c = let a = c.args in
+    sym (c.loop-i.invariant ∙ all_hit _ _ _ _ (pair_from_lem a.view.now c.loop-i.i (omega arith)) (failed c.row_copied.ensures c.if-not-row_copied.true))
+
+pub loop-i-preserved : goal.loop-i-preserved
+loop-i-preserved c = let a = c.args in
+    c.loop-i.invariant ∙ all_miss _ _ _ _ (pair_from_lem a.view.now c.loop-i.i (omega arith)) (passed c.row_copied.ensures c.if-not-row_copied.false)
+
+pub returns : goal.returns
+returns c = sym (c.loop-i.invariant ∙ all_end _ _ c.loop-i.i (omega arith))
