@@ -15,7 +15,7 @@ use rules::number::is_distance;
 use store::entry::Optional;
 
 // Whether the set is complete, if the RTPS reader followed it.
-#[derive(Drop)]
+#[derive(Clone, Copy)]
 pub enum Flag {
     Absent,
     Complete,
@@ -23,13 +23,13 @@ pub enum Flag {
 }
 
 // The end of a writer's coherent set: its own number, and the flag.
-#[derive(Drop)]
+#[derive(Clone, Copy)]
 pub struct CoherentSetEnd {
     pub own: Optional,
     pub complete: Flag,
 }
 
-#[derive(Drop)]
+#[derive(Clone, Copy)]
 pub enum Kind {
     Sample,
     Lifecycle,
@@ -37,7 +37,7 @@ pub enum Kind {
 }
 
 // What a reader takes off its channel.
-#[derive(Drop)]
+#[derive(Clone, Copy)]
 pub struct Item {
     pub kind: Kind,
     pub writer: [u8; 16],
@@ -46,7 +46,7 @@ pub struct Item {
 }
 
 // A held member of a set: a sample or a lifecycle change.
-#[derive(Drop)]
+#[derive(Clone, Copy)]
 pub struct Member {
     pub lifecycle: bool,
     pub writer: [u8; 16],
@@ -55,13 +55,13 @@ pub struct Member {
 }
 
 // The first `len` places are held, in the order of their arrival; never more than 64.
-#[derive(Drop)]
+#[derive(Clone, Copy)]
 pub struct CoherentHold {
     pub len: usize,
     pub held: [Member; 64],
 }
 
-#[derive(Drop)]
+#[derive(Clone, Copy)]
 pub enum GateAnswer {
     // the number of items written
     Passed(usize),
@@ -71,7 +71,7 @@ pub enum GateAnswer {
     Full,
 }
 
-#[derive(Drop)]
+#[derive(Clone, Copy)]
 pub struct Gated {
     pub answer: GateAnswer,
     pub hold: CoherentHold,
