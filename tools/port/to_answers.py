@@ -106,6 +106,8 @@ class Names:
         ch = self.chain(place)
         if name in ("args", "requires", "ranges"):
             return "c." + name
+        if name in ("well-formed", "well_formed"):
+            return "c.well_formed"
         n = norm(name)
         for exact in (True, False):
             best = None
@@ -220,6 +222,11 @@ def turn_body(lines, names, place, said, args):
         while rest and rest[0] == "before":
             k += 1
             rest.pop(0)
+        if len(rest) == 2 and rest[1] == "ensures":
+            names.field(place, k, rest[0])
+            if names.found and CLAUSES.get(names.callee.get(names.at), {}).get("ensures"):
+                promised[m.group(1)] = names.callee[names.at]
+            return
         if len(rest) != 1:
             return
         names.field(place, k, rest[0])
@@ -231,6 +238,7 @@ def turn_body(lines, names, place, said, args):
 
     steps = {}
     callees = {}
+    promised = {}
     for m in re.finditer(r"let\s+([A-Za-z_][\w']*)\s*=\s*([A-Za-z_][\w']*)((?:\.[\w'-]+)+)\s+in", text):
         stepped(m)
     text = PATH.sub(path, text)
@@ -243,6 +251,14 @@ def turn_body(lines, names, place, said, args):
             text = re.sub(r"(?<=\.)" + re.escape(a) + r"(?![\w'-])", b, text)
             text = re.sub(r"(?<![\w.'-])" + re.escape(a) + r"(?= = )", b, text)
     text = re.sub(r"not-(?:true|false)\s+(?:\([^()]*\)|[^\s()]+)\s+(c\.if-not-[^\s)]*\.(?:true|false))(?![\w'-])", r"\1", text)
+    for v, fn in promised.items():
+        def of(m):
+            return ".".join([v] + named(["ensures"] + m.group(1).split(".")[1:], fn)[1:])
+        text = re.sub(r"(?<![\w.'-])" + re.escape(v) + r"((?:\.[01])+)(?![\w'])", of, text)
+    ch = names.chain(place)
+    for v, k in alias.items():
+        if v != "c" and k < len(ch):
+            text = re.sub(r"(?<![\w.'«-])" + re.escape(v) + r"(?![\w.'»-])", "«" + ch[k] + "»", text)
     for v, fn in callees.items():
         def clause(m):
             return ".".join([v] + named(m.group(1).split(".")[1:], fn))

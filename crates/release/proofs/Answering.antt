@@ -2,24 +2,22 @@
 use Prim.Native.Nat.{ℕ, ◌+◌, ◌<◌, ◌≤◌, min}
 use mathlib.Core.Path.{◌≡◌, refl, sym, subst, ap, ◌∙◌}
 use mathlib.Core.Bool.{Bool, true, false, ◌||◌, not, cond}
-use mathlib.Core.List.{List, [], ◌∷◌, ◌++◌, map, append-nil}
+use mathlib.Core.List.{List, ◌++◌, map, append-nil}
 use native.Mathlib.Omega.{arith}
 use lib.Dec.{ltb, leb}
 use lib.ListN.{length, take, drop, get_or, set, length-map, take-append-drop, drop_of_length-le}
 use lib.Seq.{take_all, length-take-le, get_or-set_other}
 use borrow.Author.Tests.{lt-ltb, le-ltb}
 use Rattle.laws.specs.Answer.{Answer, refused, answered}
-use Rattle.laws.specs.Lists.{count, all, any}
-use Rattle.rules.specs.Entry.{Entry, is_sample}
-use Rattle.rules.specs.State.{State, Group, Counts}
+use Rattle.laws.specs.Lists.{all, any}
+use Rattle.rules.specs.State.{State, Group}
 use Rattle.rules.specs.Offer.{refusal}
-use Rattle.rules.specs.Commit.{Turn}
-use Rattle.rules.specs.Release.{Work, malformed, turn_of, release_all, work_of, back_to, released, samples, release_refusal, released_if, release}
-use Rattle.rules.specs.Run.{place_of, said_release, written}
+use Rattle.rules.specs.Release.{Work, malformed, turn_of, release_all, work_of, back_to, released, samples, release_refusal, release}
+use Rattle.rules.specs.Run.{place_of}
 use Rattle.rules.proofs.Keeping.{release_all_stored}
-use Rattle.store.specs.Store.{rows_in, rows_of, staged, groups_of, writers_of, counts_of, state_of}
+use Rattle.store.specs.Store.{rows_in, rows_of, staged, groups_of, state_of}
 use Rattle.group_view.specs.View.{pairs_of, digests_of, more, view_of}
-use Rattle.release.specs.Released.{count_out, release_to, release_noted}
+use Rattle.release.specs.Released.{release_to, release_noted}
 use Rattle.sets.specs.Tied.{Spot, spot, Carries, needs, wants, Fit, turns, ReleasedTo, Compacted}
 use Rattle.store.proofs.Asked.{any_same, staged_le}
 use Rattle.store.proofs.Queries.{all_none}

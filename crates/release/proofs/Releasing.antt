@@ -1,26 +1,23 @@
 -- Repetitions one after the other, and groups one after the other: what a release that stops, or that used its fuel up, has done.
-use Prim.Native.Nat.{ℕ, zero, suc, ◌+◌, ◌-◌, ◌*◌, ◌/◌, ◌%◌, ◌^◌, ◌<◌, ◌≤◌}
+use Prim.Native.Nat.{ℕ, zero, suc, ◌+◌, ◌*◌, ◌<◌, ◌≤◌}
 use mathlib.Core.Path.{◌≡◌, refl, sym, subst, ap, ◌∙◌}
 use mathlib.Core.Bool.{Bool, true, false}
-use mathlib.Core.List.{List, [], ◌∷◌, ◌++◌, map, map-map, append_assoc}
+use mathlib.Core.List.{List, [], ◌∷◌, ◌++◌, append_assoc}
 use mathlib.Core.Option.{Option, some, none}
 use native.Mathlib.Omega.{arith}
-use lib.IntN.{ℤ}
-use lib.ListN.{length, take, drop, get_or, set, length-set, length-append, length-map, take-append-drop}
+use lib.ListN.{length, take, drop, get_or, set, length-set, length-append}
 use lib.Seq.{set_at, get_or_at, get_or-set_same, take-suc, drop-cons, length-take-le}
 use Rattle.laws.specs.Lists.{is_some}
-use Rattle.rules.specs.Entry.{Entry, sample}
 use Rattle.rules.specs.State.{Group, new_group}
 use Rattle.rules.specs.Commit.{Turn}
 use Rattle.rules.specs.Release.{Work, or_stop, round, rounds, enough, committed_at, at_group, release_group, release_all, turn_of}
-use Rattle.rules.specs.Run.{place_of}
 use Rattle.rules.proofs.Turns.{stopped}
 use Rattle.rules.proofs.Fuel.{more}
-use Rattle.store.specs.Store.{staged, rows_in, groups_of, writers_of, counts_of}
+use Rattle.store.specs.Store.{rows_in, groups_of, writers_of}
 use Rattle.group_view.specs.View.{view_of}
 use Rattle.sets.proofs.Places.{stay_none, stay_rows}
 use Rattle.sets.proofs.Stands.{work_at, carried, begun, set_same, stands}
-use Rattle.sets.specs.Tied.{Spot, at, group_at, Carries, Tied, needs, wants, Fit, GoesBy, Goes, turn_at, turns, round_to, Rounds, ReleasedTo}
+use Rattle.sets.specs.Tied.{Spot, group_at, Carries, Tied, wants, Fit, Goes, turn_at, turns, round_to, Rounds, ReleasedTo}
 use Rattle.store.proofs.Asked.{staged_le}
 use Rattle.store.proofs.RowLaws.{length_rows}
 use Rattle.sets.proofs.Spots.{goes_none, goes_then, goes_as}

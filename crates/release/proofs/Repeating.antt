@@ -2,27 +2,25 @@
 -- committed, and the lowest pending number.
 use Prim.Native.Nat.{ℕ, suc, ◌+◌, ◌-◌, ◌*◌, ◌%◌, ◌^◌, ◌<◌, ◌≤◌}
 use mathlib.Core.Path.{◌≡◌, refl, sym, ap, ap₂, subst, ◌∙◌}
-use mathlib.Core.Bool.{Bool, true, false, ◌&&◌, ◌||◌, not}
+use mathlib.Core.Bool.{Bool, true, false, ◌&&◌, not}
 use mathlib.Core.List.{List, []}
 use mathlib.Core.Option.{Option, some, none}
 use native.Mathlib.Omega.{arith}
-use lib.Dec.{eqb, leb, ltb}
+use lib.Dec.{eqb, ltb}
 use lib.ListN.{length, get_or, set, take, drop, length-set}
 use lib.Seq.{set-set, get_or-set_same, get_or-set_other}
 use borrow.Author.Tests.{eqb-true, lt-ltb}
 use Rattle.laws.specs.Lists.{all, any, keep, find, index_of, is_some}
 use Rattle.guids.specs.Guid.{Guid}
 use Rattle.rules.specs.Entry.{Entry, of_group}
-use Rattle.rules.specs.State.{Group, new_group, writer_of, plus}
-use Rattle.rules.specs.Marks.{past_of}
+use Rattle.rules.specs.State.{Group, new_group, plus}
 use Rattle.rules.specs.Sets.{Pair, lowest_ended, end_missing, agrees, whole}
-use Rattle.rules.specs.Commit.{Turn, all_from, pair_past, digests_accepted, ruled_out, copies_arrived, is_head, head_of, lowest_number, next, ready}
+use Rattle.rules.specs.Commit.{Turn, is_head, head_of, lowest_number, next, ready}
 use Rattle.rules.specs.Release.{Work, discard, hand_out, turn_of, skip, committed_at, commit, commit_if, head_step, end_step, round, or_stop, waited, young}
 use Rattle.store.specs.Store.{Row, group_of, row_of, row_at, rows_in, staged, groups_of, writers_of, counts_of, live}
-use Rattle.group_view.specs.View.{digests_of, pairs_for, view_of}
 use Rattle.store.specs.Records.{Asks, Removed}
-use Rattle.sets.specs.Ready.{digests_fine, head_for, arrived_for, arrived}
-use Rattle.sets.specs.Placed.{Placed, placed}
+use Rattle.sets.specs.Ready.{head_for}
+use Rattle.sets.specs.Placed.{placed}
 use Rattle.sets.proofs.Places.{stay_rows, placed_length}
 use Rattle.sets.proofs.Stands.{goes_places}
 use lib.IntN.{ℤ}
@@ -36,8 +34,8 @@ use Rattle.store.proofs.RowLaws.{length_rows, row_in}
 use Rattle.sets.proofs.Spots.{goes_none, goes_then, goes_as}
 use Rattle.store.proofs.Asked.{staged_le}
 use Rattle.store.proofs.Stages.{live_stage, live_rows}
-use Rattle.store.proofs.StoreLaws.{head_word, head_groups, head_writers, head_counts, few_groups, group_at_lem, group_word, group_committed, groups_set, groups_set_before, writers_set_before, rows_in_set}
-use Rattle.ready.proofs.Asking.{group_announced, turn_guid, turn_ruled, turn_ready}
+use Rattle.store.proofs.StoreLaws.{few_groups, group_at_lem, group_committed, groups_set, groups_set_before, writers_set_before, rows_in_set}
+use Rattle.ready.proofs.Asking.{turn_guid}
 
 -- ---- rows that are gone are taken out
 

@@ -140,7 +140,7 @@ fn end_mark(store: &Store, n: usize, group: Key, set: i64, time: u64) -> Moment
 }
 
 // Rows in use and places written after a step.
-#[derive(Drop)]
+#[derive(Clone, Copy)]
 pub struct Progress {
     pub rows: usize,
     pub out: usize,
@@ -230,7 +230,7 @@ fn commit_row(
 }
 
 // What is remembered of the group's held entries: no set is ended; no set but `own` is open and not ended.
-#[derive(Drop)]
+#[derive(Clone, Copy)]
 pub struct Memory {
     pub quiet: bool,
     pub clean: bool,
@@ -306,7 +306,7 @@ fn both(a: bool, b: bool) -> bool
 }
 
 // Rows in use, places written, where the list of pending rows then begins, and what is remembered.
-#[derive(Drop)]
+#[derive(Clone, Copy)]
 pub struct Advance {
     pub rows: usize,
     pub out: usize,

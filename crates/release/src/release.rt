@@ -115,7 +115,7 @@ fn commit(
 }
 
 // What one repetition did: whether it went on, the rows in use, the places written, where the list begins.
-#[derive(Drop)]
+#[derive(Clone, Copy)]
 struct Repetition {
     pub went: bool,
     pub rows: usize,
@@ -396,7 +396,7 @@ fn release_groups(
     Progress { rows, out: to }
 }
 
-#[derive(Drop)]
+#[derive(Clone, Copy)]
 pub enum Released {
     Out(usize),
     MalformedView,
