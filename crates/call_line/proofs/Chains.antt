@@ -6,7 +6,7 @@ use mathlib.Core.Bool.{Bool, true, false, cond, true≢false, ◌&&◌}
 use mathlib.Core.List.{List, [], ◌∷◌}
 use mathlib.Core.Option.{Option, none, some}
 use native.Mathlib.Omega.{arith}
-use borrow.Author.Tests.{eqb-true, eqb-false, eq-eqb}
+use borrow.Author.Tests.{eqb-true}
 use lib.Dec.{eqb}
 use lib.IntN.{ℤ, pos}
 use lib.ListN.{length, get_or, drop}
@@ -20,7 +20,7 @@ use Rattle.fields.specs.declared.cursor.WordAfter.{WordAfter}
 use Rattle.fields.specs.declared.cursor.LongAfter.{LongAfter}
 use Rattle.fields.specs.declared.cursor.NumberAfter.{NumberAfter}
 use Rattle.fields.proofs.OnePass.{byte_found, word_found, long_found, number_found}
-use Rattle.call_line.specs.Line.{Line, ◌⊛◌, optional, guid_of, guid, number_if, word_if, sized, line_from}
+use Rattle.call_line.specs.Line.{Line, ◌⊛◌, optional, guid_of, guid, number_if, word_if, sized}
 use Rattle.call_line.specs.Places.{At, Reads}
 use Rattle.call_line.proofs.Steps.{get_there, field, reads_as, reads_by, last_is, last_not}
 

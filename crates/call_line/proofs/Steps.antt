@@ -1,11 +1,10 @@
 -- A line of a text, read field by field: what is read so far is what the definition reads, or one was bad and the next is nowhere.
-use Prim.Native.Nat.{ℕ, zero, suc, ◌+◌, ◌-◌, ◌^◌, ◌≤◌, ◌<◌, min}
+use Prim.Native.Nat.{ℕ, zero, suc, ◌+◌, ◌-◌, ◌^◌, ◌≤◌, ◌<◌}
 use mathlib.Core.Path.{◌≡◌, refl, sym, ap, ◌∙◌, subst}
-use mathlib.Core.Logic.{◌⊎◌, inl, inr, ⊎_elim}
+use mathlib.Core.Logic.{inl, inr, ⊎_elim}
 use mathlib.Core.Bool.{Bool, true, false, cond, not, true≢false, ◌&&◌, ◌||◌}
 use mathlib.Core.List.{List, [], ◌∷◌}
 use mathlib.Core.Option.{Option, none, some}
-use native.Mathlib.Nat.{min-eq_left}
 use native.Mathlib.Numerals.{add-one}
 use native.Mathlib.Omega.{arith}
 use borrow.Author.Tests.{le-leb, lt-leb, leb-true, leb-false, eqb-true, eqb-false, eq-eqb, ne_eqb}
@@ -14,7 +13,6 @@ use lib.ListN.{length, get_or, drop, length-drop, drop_of_length-le}
 use lib.Seq.{drop-cons, drop-drop}
 use Rattle.fields.specs.Fields.{lengthen, fields_of, field_at, only}
 use Rattle.fields.specs.Cursor.{ends, line_in, line_end, field_in, ending, field_from, field_after, is_last, letter_at, found_or}
-use Rattle.fields.proofs.Fields.{some_field}
 use Rattle.fields.proofs.OnePass.{get_past, no_end, in_stop, in_byte}
 use Rattle.call_line.specs.Line.{◌⊛◌, sized, offer_line, start_line, counted_line, digest_line, sample_line, end_line, heartbeat_line, gap_line, release_line, line_by, line_of}
 use Rattle.call_line.specs.Places.{more, At, Reads}

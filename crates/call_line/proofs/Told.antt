@@ -1,11 +1,10 @@
 -- Laws of what was read of a field that may be absent, `-`, and of a line's cases.
 use Prim.Native.Nat.{ℕ}
-use mathlib.Core.Path.{◌≡◌, refl, ap}
+use mathlib.Core.Path.{◌≡◌, ap}
 use mathlib.Core.Bool.{Bool, true, false, cond}
 use mathlib.Core.List.{List}
 use mathlib.Core.Option.{Option, none, some}
 use borrow.Author.Tests.{eq-eqb, ne_eqb}
-use lib.Dec.{eqb}
 use Rattle.fields.specs.Fields.{only, told_or}
 use Rattle.call_line.specs.Line.{◌⊛◌, optional}
 

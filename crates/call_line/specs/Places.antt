@@ -3,7 +3,6 @@ use Rattle.std.specs.Prelude.{ℕ, ◌+◌, ◌-◌, ◌^◌, ◌≤◌, ◌≡�
 use Rattle.std.proofs.Math.Option.{Option, none, some}
 use Rattle.guids.specs.Guid.{Guid}
 use Rattle.rules.specs.Entry.{What}
-use Rattle.rules.specs.Offer.{Offer}
 use Rattle.store.specs.Records.{optional_as}
 use Rattle.fields.specs.Fields.{fields_of, byte, word, number}
 use Rattle.fields.specs.Cursor.{line_in, line_end, field_in}

@@ -13,19 +13,19 @@ use fields::{number_at, only_byte};
 use offers::call::Digest;
 use store::entry::Optional;
 
-#[derive(Drop)]
+#[derive(Clone, Copy)]
 pub struct NumberIf {
     pub ok: bool,
     pub value: Optional,
 }
 
-#[derive(Drop)]
+#[derive(Clone, Copy)]
 pub(crate) struct NumberIfAfter {
     pub value: Optional,
     pub end: usize,
 }
 
-#[derive(Drop)]
+#[derive(Clone, Copy)]
 pub(crate) struct WordIfAfter {
     pub value: Digest,
     pub end: usize,

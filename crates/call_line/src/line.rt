@@ -9,20 +9,20 @@ use group_view::view::{DigestRow, Pair};
 use offers::call::{Digest, Gap, Heartbeat, Offer};
 use store::entry::{Optional, What};
 
-#[derive(Drop)]
+#[derive(Clone, Copy)]
 pub struct LinePair {
     pub group: u8,
     pub writer: u8,
     pub reader: u8,
 }
 
-#[derive(Drop)]
+#[derive(Clone, Copy)]
 pub struct LineDigest {
     pub group: u8,
     pub digest: u32,
 }
 
-#[derive(Drop)]
+#[derive(Clone, Copy)]
 pub struct LineOffer {
     pub group: u8,
     pub writer: u8,
@@ -34,7 +34,7 @@ pub struct LineOffer {
     pub time: u64,
 }
 
-#[derive(Drop)]
+#[derive(Clone, Copy)]
 pub struct LineHeartbeat {
     pub group: u8,
     pub writer: u8,
@@ -45,7 +45,7 @@ pub struct LineHeartbeat {
     pub secure: Digest,
 }
 
-#[derive(Drop)]
+#[derive(Clone, Copy)]
 pub struct LineGap {
     pub group: u8,
     pub writer: u8,

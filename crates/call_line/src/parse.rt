@@ -12,7 +12,7 @@ use fields::cursor::{
 };
 use store::entry::{Optional, SetEnd, What};
 
-#[derive(Drop)]
+#[derive(Clone, Copy)]
 pub enum Parsed {
     Timeout(u64),
     Counted(LinePair),
@@ -25,14 +25,14 @@ pub enum Parsed {
 }
 
 // What a line spells, and where it ends.
-#[derive(Drop)]
+#[derive(Clone, Copy)]
 pub struct LineAt {
     pub parsed: Parsed,
     pub end: usize,
 }
 
 // The fields of an offer that `S` and `E` lines share.
-#[derive(Drop)]
+#[derive(Clone, Copy)]
 struct OfferAt {
     group: u8,
     writer: u8,
