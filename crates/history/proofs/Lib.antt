@@ -1,5 +1,4 @@
 pub mod Chained
 pub mod Fresh
-pub mod Locals
 pub mod Noting
 pub mod Own

@@ -24,7 +24,7 @@ use release::release::{Released, release_noted};
 use store::words::Store;
 
 // The store: a header and three tables of words (specs/Store.antt).
-#[derive(Drop)]
+#[derive(Clone, Copy)]
 pub struct GroupOrder {
     pub words: Store,
 }
