@@ -185,6 +185,29 @@ def gather_fields():
                 fields.add(g.group(1))
 
 
+# Constructors that stand several in a line, and binders with names of the source.
+MORE = {
+    "isStored": "is_stored",
+    "isJoined": "is_joined",
+    "isLate": "is_late",
+    "isLifecycle": "is_lifecycle",
+    "didPush": "did_push",
+    "didCount": "did_count",
+    "didJoin": "did_join",
+    "newSet": "new_set",
+    "coherentAccess": "coherent_access",
+    "minimumSeparationNanos": "minimum_separation_nanos",
+}
+
+
+def more():
+    for p, sub, fn in files(ROOT):
+        t = open(p, encoding="utf-8").read()
+        made = re.sub(r"(?<![\w'-])(" + "|".join(MORE) + r")(?![\w'-])", lambda m: MORE[m.group(1)], t)
+        if made != t:
+            open(p, "w", encoding="utf-8").write(made)
+
+
 # Rattle has a library named hex.
 CRATES = {"hex": "hex_digits"}
 
@@ -203,4 +226,5 @@ def move_crates():
 
 gather_fields()
 main()
+more()
 move_crates()

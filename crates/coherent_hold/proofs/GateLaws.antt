@@ -14,7 +14,7 @@ use Rattle.laws.specs.Lists.{keep}
 use Rattle.guids.specs.Guid.{Guid, compare_guid, same_guid, order_as}
 use Rattle.guids.specs.declared.guid.GuidOrder.{GuidOrder}
 use Rattle.laws.proofs.Lists.{keep_last, keep_map, length_keep, none_some}
-use Rattle.coherent_hold.specs.Gate.{Kind, is_sample, isLifecycle, is_end, Item, ends, changes, member_mark, first_mark, words_of, words, written, member_as, hold_as}
+use Rattle.coherent_hold.specs.Gate.{Kind, is_sample, is_lifecycle, is_end, Item, ends, changes, member_mark, first_mark, words_of, words, written, member_as, hold_as}
 use Rattle.coherent_hold.specs.declared.gate.Member.{Member}
 use Rattle.coherent_hold.specs.declared.gate.CoherentHold.{CoherentHold}
 use Rattle.laws.proofs.Arrays.{keep_more}
@@ -84,14 +84,14 @@ unfolding same_guid
 same_told r o a b e f = ap compare_is_eq (ap order_as (sym f) ∙ e)
 
 made : (k : Kind) (w : Guid) (s : Option ℤ) (n : ℕ) (z : ℤ) → cond (ends k) none s ≡ some z
-    → ◌≡◌ {A = Item} (record { kind = cond (changes k) isLifecycle is_sample; writer = w; set = some z; item = n }) (record { kind = k; writer = w; set = s; item = n })
+    → ◌≡◌ {A = Item} (record { kind = cond (changes k) is_lifecycle is_sample; writer = w; set = some z; item = n }) (record { kind = k; writer = w; set = s; item = n })
 made is_sample w s n z e = ap (λ x. record { kind = is_sample; writer = w; set = x; item = n }) (sym e)
-made isLifecycle w s n z e = ap (λ x. record { kind = isLifecycle; writer = w; set = x; item = n }) (sym e)
+made is_lifecycle w s n z e = ap (λ x. record { kind = is_lifecycle; writer = w; set = x; item = n }) (sym e)
 made (is_end o c) w s n z e = none_some z e
 
 -- a member as it is held
 pub member_made : (i : Item) (z : ℤ) → member_mark i ≡ some z
-    → ◌≡◌ {A = Item} (record { kind = cond (changes i.kind) isLifecycle is_sample; writer = i.writer; set = some z; item = i.item }) i
+    → ◌≡◌ {A = Item} (record { kind = cond (changes i.kind) is_lifecycle is_sample; writer = i.writer; set = some z; item = i.item }) i
 unfolding member_mark
 member_made i z e = made i.kind i.writer i.set i.item z e
 

@@ -22,7 +22,7 @@ use Rattle.coherent_hold.specs.declared.gate.Gated.{Gated}
 
 -- a sample, a lifecycle change, or the end of a writer's set with its own number and the complete flag, if given
 pub data Kind : Type 0 where
-  is_sample isLifecycle : Kind
+  is_sample is_lifecycle : Kind
   is_end : Option ℤ → Option Bool → Kind
 
 pub record Item : Type 0 where
@@ -33,12 +33,12 @@ pub record Item : Type 0 where
 
 abbrev pub ends : Kind → Bool
 ends is_sample = false
-ends isLifecycle = false
+ends is_lifecycle = false
 ends (is_end o c) = true
 
 abbrev pub changes : Kind → Bool
 changes is_sample = false
-changes isLifecycle = true
+changes is_lifecycle = true
 changes (is_end o c) = false
 
 abbrev pub present : Option ℤ → Bool
@@ -103,7 +103,7 @@ followed i out l = record { out = out ++ (i ∷ []); incomplete = none; hold = l
 
 abbrev pub after : Kind → Item → List Item → List Item → Effect
 after is_sample i out l = followed i out l
-after isLifecycle i out l = followed i out l
+after is_lifecycle i out l = followed i out l
 after (is_end o c) i out l = ended (set_is_complete out o c) out l
 
 unfoldable pub gated : Bool → Item → List Item → Effect
@@ -177,14 +177,14 @@ flag_as F.Incomplete = some false
 
 unfoldable pub kind_as : Ks.Kind → Kind
 kind_as Kv.Sample = is_sample
-kind_as Kv.Lifecycle = isLifecycle
+kind_as Kv.Lifecycle = is_lifecycle
 kind_as (Kv.End e) = is_end (optional_as e.own) (flag_as e.complete)
 
 unfoldable pub item_as : It.Item → Item
 item_as i = record { kind = kind_as i.kind; writer = i.writer; set = optional_as i.set; item = i.item }
 
 unfoldable pub member_as : Member → Item
-member_as m = record { kind = cond m.lifecycle isLifecycle is_sample; writer = m.writer; set = some m.set; item = m.item }
+member_as m = record { kind = cond m.lifecycle is_lifecycle is_sample; writer = m.writer; set = some m.set; item = m.item }
 
 -- the first of the 64 places, as many as the hold's length says; what stands in those behind is left free
 unfoldable pub hold_as : CoherentHold → List Item

@@ -11,7 +11,7 @@ use Rattle.laws.specs.Answer.{Answer, refused, answered}
 use Rattle.laws.specs.Lists.{keep, all, count}
 use Rattle.guids.specs.Guid.{Guid, same_guid}
 use Rattle.laws.proofs.Lists.{and_true, and_left, and_right, all_keep, all_both, not_both}
-use Rattle.coherent_hold.specs.Gate.{Kind, is_sample, isLifecycle, is_end, Item, Effect, member_mark, is_member, leaves, same_mark, first_mark, count_is, passed, held_back, ended, followed, after, gated, hold_as, member_as}
+use Rattle.coherent_hold.specs.Gate.{Kind, is_sample, is_lifecycle, is_end, Item, Effect, member_mark, is_member, leaves, same_mark, first_mark, count_is, passed, held_back, ended, followed, after, gated, hold_as, member_as}
 use Rattle.coherent_hold.specs.Gate as D
 use Rattle.coherent_hold.specs.declared.gate.Item as It
 use Rattle.coherent_hold.specs.declared.gate.Gated as Gd
@@ -36,7 +36,7 @@ marked w (some z) = refl
 member_k : (k : Kind) (i : Item) → i.kind ≡ k → coherent_member (sample_w k i) ≡ member_of i.writer (member_mark i)
 unfolding member_mark
 member_k is_sample i e = marked i.writer i.set ∙ ap (λ k. member_of i.writer (cond (D.ends k) none i.set)) (sym e)
-member_k isLifecycle i e = marked i.writer i.set ∙ ap (λ k. member_of i.writer (cond (D.ends k) none i.set)) (sym e)
+member_k is_lifecycle i e = marked i.writer i.set ∙ ap (λ k. member_of i.writer (cond (D.ends k) none i.set)) (sym e)
 member_k (is_end o c) i e = ap (λ k. member_of i.writer (cond (D.ends k) none i.set)) (sym e)
 
 member_same : (i : Item) → coherent_member (sample_of i) ≡ member_of i.writer (member_mark i)
@@ -130,7 +130,7 @@ module _ (i : Item) (l : List Item) (h : all (λ i. is_member i) l ≡ true) whe
 
   ends_k : (k : Kind) → i.kind ≡ k → ends (sample_w k i) (samples l) ≡ as_gated (after k i out left)
   ends_k is_sample e = ap (λ p. follows (alive i.writer i.set i.item) p) (release_same i.writer none l h) ∙ follow_same is_sample e
-  ends_k isLifecycle e = ap (λ p. follows (lifecycle i.writer i.set i.item) p) (release_same i.writer none l h) ∙ follow_same isLifecycle e
+  ends_k is_lifecycle e = ap (λ p. follows (lifecycle i.writer i.set i.item) p) (release_same i.writer none l h) ∙ follow_same is_lifecycle e
   ends_k (is_end o c) e =
       ap (λ p. or_discard (set_is_complete p.0 o c) p) (release_same i.writer none l h)
       ∙ ap (λ b. or_discard b (samples out, samples left)) (complete_same out o c (all_keep (λ i. is_member i) (λ h. leaves i.writer none h) l h))
@@ -142,7 +142,7 @@ module _ (i : Item) (l : List Item) (h : all (λ i. is_member i) l ≡ true) whe
   passes_k : (k : Kind) → i.kind ≡ k → passes (sample_w k i) (samples l) ≡ as_gated (passed i l)
   unfolding passed sample_of
   passes_k is_sample e = ap (λ k. record { items = sample_w k i ∷ []; incomplete = none; hold = samples l }) (sym e) ∙ ap (λ k. record { items = samples_of_kind k; incomplete = none; hold = samples l }) (sym e)
-  passes_k isLifecycle e = ap (λ k. record { items = sample_w k i ∷ []; incomplete = none; hold = samples l }) (sym e) ∙ ap (λ k. record { items = samples_of_kind k; incomplete = none; hold = samples l }) (sym e)
+  passes_k is_lifecycle e = ap (λ k. record { items = sample_w k i ∷ []; incomplete = none; hold = samples l }) (sym e) ∙ ap (λ k. record { items = samples_of_kind k; incomplete = none; hold = samples l }) (sym e)
   passes_k (is_end o c) e = ap (λ k. record { items = samples_of_kind k; incomplete = none; hold = samples l }) (sym e)
 
   whole_ends : ends (sample_of i) (samples l) ≡ as_gated (after i.kind i out left)
@@ -177,7 +177,7 @@ module _ (i : Item) (l : List Item) (h : all (λ i. is_member i) l ≡ true) whe
 
   after_members : (k : Kind) → all (λ i. is_member i) (after k i out left).hold ≡ true
   after_members is_sample = all_keep (λ i. is_member i) (λ h. not (leaves i.writer none h)) l h
-  after_members isLifecycle = all_keep (λ i. is_member i) (λ h. not (leaves i.writer none h)) l h
+  after_members is_lifecycle = all_keep (λ i. is_member i) (λ h. not (leaves i.writer none h)) l h
   after_members (is_end o c) = ended_members (D.set_is_complete out o c)
 
   hold_members : (b : Bool) → is_member i ≡ b → all (λ i. is_member i) (cond b (held_back i l) (after i.kind i out left)).hold ≡ true
@@ -268,7 +268,7 @@ pub gate_alike : (cs : List Call) → SameRun cs
 unfolding all
 gate_alike cs = record { answers_same = answers_from cs [] refl; hold_same = run_from cs [] refl }
 
-kind_member : (b : Bool) (m : Member) → is_member (record { kind = cond b isLifecycle is_sample; writer = m.writer; set = some m.set; item = m.item }) ≡ true
+kind_member : (b : Bool) (m : Member) → is_member (record { kind = cond b is_lifecycle is_sample; writer = m.writer; set = some m.set; item = m.item }) ≡ true
 unfolding is_member member_mark
 kind_member true m = refl
 kind_member false m = refl

@@ -3,7 +3,7 @@ use Rattle.std.specs.Prelude.{ℕ, ◌+◌, ◌/◌, ◌≡◌, Bool, false, ◌
 use Rattle.std.proofs.Math.Option.{Option, some, none}
 use Rattle.laws.specs.Answer.{Answer, refused, answered}
 use Rattle.guids.specs.Guid.{Guid}
-use Rattle.coherent_hold.specs.Gate.{Kind, is_sample, isLifecycle, is_end, Item, Effect, item_as, hold_as, answer_as, written}
+use Rattle.coherent_hold.specs.Gate.{Kind, is_sample, is_lifecycle, is_end, Item, Effect, item_as, hold_as, answer_as, written}
 use Rattle.coherent_hold.specs.Gate as D
 use Rattle.coherent_hold.specs.declared.gate.Item as It
 use Rattle.coherent_hold.specs.declared.gate.CoherentHold.{CoherentHold}
@@ -13,7 +13,7 @@ use Rattle.gate_model.specs.Source.{UserSample, alive, lifecycle, coherent_set_e
 -- an item of the definition as the source has it; of an end neither set mark nor item
 abbrev pub sample_w : Kind → Item → UserSample
 sample_w is_sample i = alive i.writer i.set i.item
-sample_w isLifecycle i = lifecycle i.writer i.set i.item
+sample_w is_lifecycle i = lifecycle i.writer i.set i.item
 sample_w (is_end o c) i = coherent_set_end i.writer o c
 
 unfoldable pub sample_of : Item → UserSample

@@ -27,8 +27,8 @@ is_other (some x) sn = not (eq_z x sn)
 
 -- is_some_and(|(g, sn)| g == writer_guid && new_set != Some(sn))
 abbrev pub is_released : Guid → Option ℤ → Option (Guid × ℤ) → Bool
-is_released writer newSet none = false
-is_released writer newSet (some x) = same_guid writer x.0 && is_other newSet x.1
+is_released writer new_set none = false
+is_released writer new_set (some x) = same_guid writer x.0 && is_other new_set x.1
 
 -- hold.drain(..).partition(..): released, kept
 abbrev pub put_first : Bool → UserSample → List UserSample × List UserSample → List UserSample × List UserSample
@@ -37,8 +37,8 @@ put_first false h p = (p.0, h ∷ p.1)
 
 -- CoherentHold::release: what it returns, and what is held then
 unfoldable pub release : Guid → Option ℤ → List UserSample → List UserSample × List UserSample
-release writer newSet [] = ([], [])
-release writer newSet (h ∷ hold) = put_first (is_released writer newSet (coherent_member h)) h (release writer newSet hold)
+release writer new_set [] = ([], [])
+release writer new_set (h ∷ hold) = put_first (is_released writer new_set (coherent_member h)) h (release writer new_set hold)
 
 -- set.first().and_then(coherent_member)
 abbrev pub first_member : List UserSample → Option (Guid × ℤ)
@@ -91,4 +91,4 @@ holds_or none item hold = ends item hold
 
 -- CoherentHold::gate
 unfoldable pub gate : List UserSample → UserSample → Bool → Gated
-gate hold item coherentAccess = cond coherentAccess (holds_or (coherent_member item) item hold) (passes item hold)
+gate hold item coherent_access = cond coherent_access (holds_or (coherent_member item) item hold) (passes item hold)

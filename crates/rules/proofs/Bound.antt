@@ -15,7 +15,7 @@ use Rattle.guids.specs.Guid.{Guid, same_guid}
 use Rattle.rules.specs.Entry.{What, sample, set_end, Entry, is_sample, of_group}
 use Rattle.rules.specs.State.{State, fresh, is_writer, knows_group, knows_writer, committed_of, Writer}
 use Rattle.rules.specs.Marks.{number}
-use Rattle.rules.specs.Offer.{Offer, Fate, isStored, isJoined, isLate, refusal, ninth, pair33, with_marks, entry_of, replaced, marked, mark_of, keep_end, join, fate_of, offer_refusal, place, heard_offer, offered, offer, done, heartbeat, gap}
+use Rattle.rules.specs.Offer.{Offer, Fate, is_stored, is_joined, is_late, refusal, ninth, pair33, with_marks, entry_of, replaced, marked, mark_of, keep_end, join, fate_of, offer_refusal, place, heard_offer, offered, offer, done, heartbeat, gap}
 use Rattle.rules.specs.Release.{View, young, turn_of, work_of, back_to, released, release_refusal, released_if, release}
 use Rattle.rules.specs.Run.{Call, offers, heartbeats, gaps, releases, step}
 use Rattle.rules.specs.Names.{named, map_what, map_call, map_offer}
@@ -40,14 +40,14 @@ module _ {X : Type 0} where
   no_member q m e h = ap (λ (b : Bool). b && q (marked m e)) h
 
 module _ {X : Type 0} (q : Entry X → Bool) (blind : Blind q) where
-  placed : (f : Fate) (s : State X) (e : Entry X) → (f ≡ isJoined → is_sample e ≡ false) → total q (place f e s) ≤ total q s + count q (cond (stores (answered f)) (e ∷ []) [])
+  placed : (f : Fate) (s : State X) (e : Entry X) → (f ≡ is_joined → is_sample e ≡ false) → total q (place f e s) ≤ total q s + count q (cond (stores (answered f)) (e ∷ []) [])
   unfolding total place join keep_end
-  placed isStored s e h = omega (arith, count_last q s.pending e, count_cons q e [])
-  placed isJoined s e h =
+  placed is_stored s e h = omega (arith, count_last q s.pending e, count_cons q e [])
+  placed is_joined s e h =
       let k : List (Entry X) = keep (λ h. not (replaced e h)) s.held in
       let m : Option ℕ = mark_of (find (λ h. replaced e h) s.held) in
       omega (arith, count_last (λ e. member_with q e) k (marked m e), weight_none _ (no_member q m e (h refl)), count_keep (λ h. not (replaced e h)) (λ e. member_with q e) s.held)
-  placed isLate s e h = omega arith
+  placed is_late s e h = omega arith
 
   offer_fewer : (r : Option ℕ) (s : State X) (o : Offer X)
       → total q (offered r s o).1 ≤ total q s + count q (cond (stores (offered r s o).0) (entry_of o ∷ []) [])

@@ -13,7 +13,7 @@ use Rattle.laws.specs.Lists.{all, any, count, find}
 use Rattle.rules.specs.Entry.{What, sample, set_end, Entry, is_sample_w, is_sample}
 use Rattle.rules.specs.State.{State, fresh, no_counts, committed_of}
 use Rattle.rules.specs.Marks.{number}
-use Rattle.rules.specs.Offer.{Offer, Fate, isStored, isJoined, isLate, fate, one_late, with_marks, entry_of, shares, replaced, join, mark_of, fate_of, offer_refusal, place, heard_offer, offered, offer}
+use Rattle.rules.specs.Offer.{Offer, Fate, is_stored, is_joined, is_late, fate, one_late, with_marks, entry_of, shares, replaced, join, mark_of, fate_of, offer_refusal, place, heard_offer, offered, offer}
 use Rattle.rules.specs.Release.{work_of, back_to}
 use Rattle.rules.specs.Run.{Call, offers, heartbeats, gaps, releases, step}
 use Rattle.rules.specs.Names.{map_what, map_offer, map_call, named}
@@ -22,13 +22,13 @@ use Rattle.laws.proofs.Lists.{and_left, and_last, and_never, not_true, weight_no
 use Rattle.rules.proofs.Stays.{released_stays, heartbeat_same, gap_same, release_cases, story_stays}
 use Rattle.rules.proofs.Conserve.{stock, OfSamples, keep_end_count, not_sample, released_stock, OnlySamples, only_samples, Exact, exact}
 
-pub fate_joined : (a b : Bool) → fate a b ≡ isJoined → b ≡ true
+pub fate_joined : (a b : Bool) → fate a b ≡ is_joined → b ≡ true
 fate_joined true b e = cc
 fate_joined false true e = refl
 fate_joined false false e = cc
 
 -- only an end joins
-pub joined_end : {X : Type 0} (s : State X) (o : Offer X) → fate_of s o ≡ isJoined → is_sample (entry_of o) ≡ false
+pub joined_end : {X : Type 0} (s : State X) (o : Offer X) → fate_of s o ≡ is_joined → is_sample (entry_of o) ≡ false
 unfolding fate_of entry_of is_sample
 joined_end s o e =
     let ends : Bool = not (is_sample_w o.what) in
@@ -45,9 +45,9 @@ module _ {X : Type 0} (q : Entry X → Bool) (only : OfSamples q) where
       → count q (place f (entry_of o) (heard_offer o s)).pending + count q (place f (entry_of o) (heard_offer o s)).held
       ≡ count q s.pending + count q s.held + count q (cond (accepts (answered f)) (entry_of o ∷ []) [])
   unfolding place heard_offer with_marks join
-  place_count s o isStored e = omega (arith, count_append q s.pending (entry_of o ∷ []))
-  place_count s o isJoined e = let h = joined_end s o e in omega (arith, keep_end_count q only (mark_of (find (λ h. replaced (entry_of o) h) s.held)) (entry_of o) s.held h, count_one q (entry_of o), weight_none (q (entry_of o)) (not_sample q only (entry_of o) h))
-  place_count s o isLate e = omega (arith, count_nil q)
+  place_count s o is_stored e = omega (arith, count_append q s.pending (entry_of o ∷ []))
+  place_count s o is_joined e = let h = joined_end s o e in omega (arith, keep_end_count q only (mark_of (find (λ h. replaced (entry_of o) h) s.held)) (entry_of o) s.held h, count_one q (entry_of o), weight_none (q (entry_of o)) (not_sample q only (entry_of o) h))
+  place_count s o is_late e = omega (arith, count_nil q)
 
   -- an accepted offer adds its entry
   pub offer_count : (s : State X) (o : Offer X)
@@ -107,9 +107,9 @@ module _ {X : Type 0} where
 
   place_discarded : (f : Fate) (e : Entry X) (s : State X) → (place f e s).counts.discarded ≡ s.counts.discarded
   unfolding place one_late
-  place_discarded isStored e s = refl
-  place_discarded isJoined e s = refl
-  place_discarded isLate e s = refl
+  place_discarded is_stored e s = refl
+  place_discarded is_joined e s = refl
+  place_discarded is_late e s = refl
 
   pub offer_discarded : (s : State X) (o : Offer X) → (offer s o).1.counts.discarded ≡ s.counts.discarded
   unfolding offer heard_offer with_marks

@@ -12,7 +12,7 @@ use Rattle.guids.specs.Guid.{Guid, compare_guid, same_guid, before}
 use Rattle.rules.specs.Entry.{What, sample, set_end, Entry, is_sample, of_group, in_set, of_pair, is_member, is_end_of, marks}
 use Rattle.rules.specs.State.{State, Writer, Counts, plus, no_counts, fresh, is_group, is_writer, knows_group, knows_writer, writer_of, committed_in, committed_of, stored, new_group, new_writer}
 use Rattle.rules.specs.Marks.{number, past, past_marks, past_of, insert_group, hear_group, hear_writer, raise, saw, gapped, or_keep, announced, announced_to, tell}
-use Rattle.rules.specs.Offer.{Fate, isStored, isJoined, isLate, refusal, one_late, ninth, pair33, with_marks, entry_of, shares, replaced, marked, keep_end, join, fate_of, adds, offer_refusal, place, heard_offer, offer, heartbeat, gap}
+use Rattle.rules.specs.Offer.{Fate, is_stored, is_joined, is_late, refusal, one_late, ninth, pair33, with_marks, entry_of, shares, replaced, marked, keep_end, join, fate_of, adds, offer_refusal, place, heard_offer, offer, heartbeat, gap}
 use Rattle.rules.specs.Sets.{Pair, lowest_set, lowest_ended, end_missing, members_of, members_of_pair, agrees, whole, without, is_stale, lowest_stale}
 use Rattle.rules.specs.Commit.{DigestRow, accepted, secure_accepted, digests_accepted, all_from, pair_past, ruled_out, is_head, head_of, lowest_number, next, copies_arrived, ready}
 use Rattle.rules.specs.Release.{skip, discards, young, discard, hand_out, finish, discard_stale, with_held, with_out, commit_one, commit_all, commit, waits, round, rounds, enough, View, turn_of, committed_at, malformed, at_group, release_group, release_all, work_of, back_to, released, samples, release_refusal, release}
@@ -71,9 +71,9 @@ abbrev handed : List (Entry ℕ) → List (ℕ × ℕ)
 handed l = map (λ e. (e.reader, item_w e.what)) l
 
 abbrev line_f : Fate → Line
-line_f isStored = stored'
-line_f isJoined = joined'
-line_f isLate = late'
+line_f is_stored = stored'
+line_f is_joined = joined'
+line_f is_late = late'
 
 abbrev line : Said ℕ → Counts → Line
 line (is_refused n) c = refused' n

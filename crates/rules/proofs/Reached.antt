@@ -13,7 +13,7 @@ use Rattle.guids.specs.Guid.{Guid, same_guid, before}
 use Rattle.rules.specs.Entry.{Entry, is_sample_w, of_group}
 use Rattle.rules.specs.State.{State, Group, Writer, Counts, fresh, is_group, is_writer, knows_group, knows_writer, committed_of, stored}
 use Rattle.rules.specs.Marks.{number, hear_group, tell, saw, gapped, announced, announced_to}
-use Rattle.rules.specs.Offer.{Offer, Fate, isStored, isJoined, isLate, Heartbeat, Gap, refusal, fate, one_late, ninth, pair33, with_marks, entry_of, shares, replaced, marked, keep_end, mark_of, join, fate_of, adds, offer_refusal, place, heard_offer, offered, offer, done, heartbeat, gap}
+use Rattle.rules.specs.Offer.{Offer, Fate, is_stored, is_joined, is_late, Heartbeat, Gap, refusal, fate, one_late, ninth, pair33, with_marks, entry_of, shares, replaced, marked, keep_end, mark_of, join, fate_of, adds, offer_refusal, place, heard_offer, offered, offer, done, heartbeat, gap}
 use Rattle.rules.specs.Commit.{Turn}
 use Rattle.rules.specs.Release.{Work, View, turn_of, work_of, back_to, release_all, released, release_refusal, released_if, release}
 use Rattle.rules.specs.Run.{Call, offers, heartbeats, gaps, releases, step, run}
@@ -66,12 +66,12 @@ unfolding refusal
 refusal_rest n true l e = none_not_some (some n) n e refl
 refusal_rest n false l e = e
 
-fate_stored : (b j : Bool) → fate b j ≡ isStored → b ≡ true
+fate_stored : (b j : Bool) → fate b j ≡ is_stored → b ≡ true
 fate_stored true j e = refl
 fate_stored false true e = cc
 fate_stored false false e = cc
 
-fate_joined : (b j : Bool) → fate b j ≡ isJoined → b ≡ false
+fate_joined : (b j : Bool) → fate b j ≡ is_joined → b ≡ false
 fate_joined true j e = cc
 fate_joined false j e = refl
 
@@ -184,11 +184,11 @@ module _ {X : Type 0} where
   -- ---- placing an offered entry
 
   -- the offer's number against its group's committed
-  pub stored_number : (s : State X) (o : Offer X) → fate_of s o ≡ isStored → ltb (committed_of o.group s.groups) (number o.number) ≡ true
+  pub stored_number : (s : State X) (o : Offer X) → fate_of s o ≡ is_stored → ltb (committed_of o.group s.groups) (number o.number) ≡ true
   unfolding fate_of
   stored_number s o f = fate_stored (ltb (committed_of o.group s.groups) (number o.number)) _ f
 
-  pub joined_number : (s : State X) (o : Offer X) → fate_of s o ≡ isJoined → leb (number o.number) (committed_of o.group s.groups) ≡ true
+  pub joined_number : (s : State X) (o : Offer X) → fate_of s o ≡ is_joined → leb (number o.number) (committed_of o.group s.groups) ≡ true
   unfolding fate_of
   joined_number s o f = le-leb (number o.number) (committed_of o.group s.groups) (ltb-false (committed_of o.group s.groups) (number o.number) (fate_joined (ltb (committed_of o.group s.groups) (number o.number)) (not (is_sample_w o.what) && any (λ h. shares (entry_of o) h) s.held) f))
 
@@ -226,17 +226,17 @@ module _ {X : Type 0} where
 
   placed : (s : State X) (o : Offer X) (k : Fate) → Reached s → Reached (heard_offer o s) → fate_of s o ≡ k → adds k s o && leb 256 (stored s) ≡ false → Reached (place k (entry_of o) (heard_offer o s))
   unfolding place heard_offer with_marks entry_of adds fate_of stored marked
-  placed s o isStored p r f h =
+  placed s o is_stored p r f h =
       holding (heard_offer o s) r (s.pending ++ (entry_of o ∷ [])) s.held s.counts
       (all_snoc (λ e. known (heard_offer o s).writers e) s.pending (entry_of o) r.pending_known (told o s)) r.held_known
       (all_snoc (λ e. ltb (committed_of e.group (heard_offer o s).groups) e.number) s.pending (entry_of o) r.pending_above (rw (hear_committed o.group o.group s.groups) (stored_number s o f)))
       r.held_not_above (omega (arith, length-append s.pending (entry_of o ∷ []), leb-false 256 (stored s) h))
-  placed s o isJoined p r f h =
+  placed s o is_joined p r f h =
       holding (heard_offer o s) r s.pending (join (entry_of o) s.held) s.counts
       r.pending_known (join_all (λ e. known (heard_offer o s).writers e) (λ m e. refl) (entry_of o) s.held (told o s) r.held_known)
       r.pending_above (join_all (λ e. leb e.number (committed_of e.group (heard_offer o s).groups)) (λ m e. refl) (entry_of o) s.held (rw (hear_committed o.group o.group s.groups) (joined_number s o f)) r.held_not_above)
       (join_length (entry_of o) s.held 256 (length s.pending) p.most_entries h)
-  placed s o isLate p r f h =
+  placed s o is_late p r f h =
       holding (heard_offer o s) r s.pending s.held (one_late s.counts) r.pending_known r.held_known r.pending_above r.held_not_above r.most_entries
 
   -- ---- calls

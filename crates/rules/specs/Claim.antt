@@ -8,7 +8,7 @@ use Rattle.guids.specs.Guid.{before}
 use Rattle.rules.specs.Entry.{What, sample, set_end, Entry, is_sample_w, is_sample, of_group, is_member}
 use Rattle.rules.specs.State.{State, Group, Writer, fresh, is_writer, knows_group, knows_writer, committed_of, stored}
 use Rattle.rules.specs.Marks.{number}
-use Rattle.rules.specs.Offer.{Offer, Fate, isStored, isJoined, isLate, entry_of, offer}
+use Rattle.rules.specs.Offer.{Offer, Fate, is_stored, is_joined, is_late, entry_of, offer}
 use Rattle.rules.specs.Sets.{lowest_ended}
 use Rattle.rules.specs.Commit.{Turn}
 use Rattle.rules.specs.Release.{Work, Outcome, waits, turn_of, release_group, work_of, release}
@@ -18,17 +18,17 @@ use Rattle.rules.specs.Names.{named, unname, map_state, map_said}
 -- stored and joined are accepted (document 01, Offer)
 abbrev pub accepts : Answer Fate → Bool
 accepts (refused n) = false
-accepts (answered isStored) = true
-accepts (answered isJoined) = true
-accepts (answered isLate) = false
+accepts (answered is_stored) = true
+accepts (answered is_joined) = true
+accepts (answered is_late) = false
 
 -- stored alone: no sample joins, so the samples accepted are those stored; of ends the bound counts, and the clock is asked of,
 -- the stored ones, and so holds by either sentence of document 01 on what is accepted (Offer; Refusals and rules)
 abbrev pub stores : Answer Fate → Bool
 stores (refused n) = false
-stores (answered isStored) = true
-stores (answered isJoined) = false
-stores (answered isLate) = false
+stores (answered is_stored) = true
+stores (answered is_joined) = false
+stores (answered is_late) = false
 
 -- a release that is answered
 abbrev pub is_answered : {X : Type 0} → Answer X → Bool

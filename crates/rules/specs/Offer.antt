@@ -21,7 +21,7 @@ pub record Offer (X : Type 0) : Type 0 where
 
 -- what becomes of an offer that is not refused (document 01, Offer)
 pub data Fate : Type 0 where
-  isStored isJoined isLate : Fate
+  is_stored is_joined is_late : Fate
 
 -- of the tests in their order, the number of the first that holds (document 01, Operations)
 unfoldable pub refusal : List (ℕ × Bool) → Option ℕ
@@ -29,9 +29,9 @@ refusal [] = none
 refusal (t ∷ l) = cond t.1 (some t.0) (refusal l)
 
 abbrev pub fate : Bool → Bool → Fate
-fate true j = isStored
-fate false true = isJoined
-fate false false = isLate
+fate true j = is_stored
+fate false true = is_joined
+fate false false = is_late
 
 -- one more late offer
 unfoldable pub one_late : Counts → Counts
@@ -101,9 +101,9 @@ module _ {X : Type 0} where
 
   -- whether one entry more is stored then (document 01, Offer, 4)
   unfoldable pub adds : Fate → State X → Offer X → Bool
-  adds isStored s o = true
-  adds isJoined s o = not (any (λ h. replaced (entry_of o) h) s.held)
-  adds isLate s o = false
+  adds is_stored s o = true
+  adds is_joined s o = not (any (λ h. replaced (entry_of o) h) s.held)
+  adds is_late s o = false
 
   -- document 01, Offer
   unfoldable pub offer_refusal : State X → Offer X → Option ℕ
@@ -114,9 +114,9 @@ module _ {X : Type 0} where
 
   -- the state after a stored, a joined and a late offer, once its marks are told
   unfoldable pub place : Fate → Entry X → State X → State X
-  place isStored e s = record { groups = s.groups; writers = s.writers; pending = s.pending ++ (e ∷ []); held = s.held; counts = s.counts; timeout = s.timeout }
-  place isJoined e s = record { groups = s.groups; writers = s.writers; pending = s.pending; held = join e s.held; counts = s.counts; timeout = s.timeout }
-  place isLate e s = record { groups = s.groups; writers = s.writers; pending = s.pending; held = s.held; counts = one_late s.counts; timeout = s.timeout }
+  place is_stored e s = record { groups = s.groups; writers = s.writers; pending = s.pending ++ (e ∷ []); held = s.held; counts = s.counts; timeout = s.timeout }
+  place is_joined e s = record { groups = s.groups; writers = s.writers; pending = s.pending; held = join e s.held; counts = s.counts; timeout = s.timeout }
+  place is_late e s = record { groups = s.groups; writers = s.writers; pending = s.pending; held = s.held; counts = one_late s.counts; timeout = s.timeout }
 
   unfoldable pub heard_offer : Offer X → State X → State X
   heard_offer o s =

@@ -14,7 +14,7 @@ use Rattle.laws.specs.Lists.{keep, all, count, find, is_some}
 use Rattle.guids.specs.Guid.{Guid, same_guid}
 use Rattle.laws.proofs.Lists.{keep_map, any_map, all_map, find_map, count_map, map_o}
 use Rattle.source_model.specs.Map.{Order, guids, numbers, pairs, or_default, get, insert, entry, remove}
-use Rattle.source_model.specs.Source.{SetEnd, Entry, HeartbeatInfo, Progress, OpenSet, no_set, Group, no_group, ReleaseCounts, GroupView, GroupOrder, sum_of, is_that, is_some_and, is_past, sees, heard, gap_to, discarding, agrees_with, skips, as_u64, first_of, held_for, is_empty, with_writer, pushed, with_sets, with_end, Did, didPush, didJoin, didCount, join_or, joins, offer_to, group_of, late_if, offer_does, offer_entry, announce, heartbeat, gap, set_known, passable, copies_in, copies_arrived, Loop, with_member, ended, take_in, commit_to, commit, item_of, items, complete, finish_if, finish_set, stale, drop_if, drop_all, commit_each, waited, taken, take_next, take_if, is_ready, at_head, all_ends, finish_or, at_ended, turn, or_return, release_group, release_each, release}
+use Rattle.source_model.specs.Source.{SetEnd, Entry, HeartbeatInfo, Progress, OpenSet, no_set, Group, no_group, ReleaseCounts, GroupView, GroupOrder, sum_of, is_that, is_some_and, is_past, sees, heard, gap_to, discarding, agrees_with, skips, as_u64, first_of, held_for, is_empty, with_writer, pushed, with_sets, with_end, Did, did_push, did_join, did_count, join_or, joins, offer_to, group_of, late_if, offer_does, offer_entry, announce, heartbeat, gap, set_known, passable, copies_in, copies_arrived, Loop, with_member, ended, take_in, commit_to, commit, item_of, items, complete, finish_if, finish_set, stale, drop_if, drop_all, commit_each, waited, taken, take_next, take_if, is_ready, at_head, all_ends, finish_or, at_ended, turn, or_return, release_group, release_each, release}
 use Rattle.source_model.specs.Calls.{group_at, ninth, pair33, stored_in, stored, samples_in, samples, fate_of, new_end, adds}
 use Rattle.source_model.specs.Claim.{each_returns}
 use Rattle.source_model.proofs.Sets.{map_append}
@@ -382,9 +382,9 @@ module _ {I : Type 0} where
   -- ---- offer
 
   abbrev bare_did : Did I → Did I
-  bare_did (didPush g) = didPush (bare_group g)
-  bare_did (didJoin g) = didJoin (bare_group g)
-  bare_did (didCount g) = didCount (bare_group g)
+  bare_did (did_push g) = did_push (bare_group g)
+  bare_did (did_join g) = did_join (bare_group g)
+  bare_did (did_count g) = did_count (bare_group g)
 
   pushed_bare : (e : Entry I) (g : Group I) → pushed (bare e) (bare_group g) ≡ bare_group (pushed e g)
   unfolding pushed bare_group entry bare
@@ -402,7 +402,7 @@ module _ {I : Type 0} where
   unfolding bare_group with_sets with_end
   join_or_bare w r x z g none = refl
   join_or_bare w r x z g (some s) =
-      ap (λ m. didJoin (record { committed = g.committed; pending = over (λ v. bares v) g.pending; writers = g.writers; current_gsn = g.current_gsn; sets = m }))
+      ap (λ m. did_join (record { committed = g.committed; pending = over (λ v. bares v) g.pending; writers = g.writers; current_gsn = g.current_gsn; sets = m }))
       (ap (λ v. insert numbers z v (over (λ s. bare_set s) g.sets)) (end_bare w r x s) ∙ insert_over numbers (λ s. bare_set s) z (record { members = s.members; ends = insert pairs (w, r) x s.ends; end_committed = s.end_committed }) g.sets)
 
   sets_get : (z : ℤ) (g : Group I) → get numbers z (bare_group g).sets ≡ map_o (λ s. bare_set s) (get numbers z g.sets)
@@ -426,10 +426,10 @@ module _ {I : Type 0} where
   offer_to_bare : (e : Entry I) (g : Group I) → offer_to (bare e) (bare_group g) ≡ bare_did (offer_to e g)
   unfolding offer_to
   offer_to_bare e g =
-      ap (λ b. cond b (joins (bare e) (bare_group g) (bare e).at_end (bare e).info.coherent_set_gsn) (didPush (pushed (bare e) (bare_group g)))) (above_bare e g)
-      ∙ (elim (le_z e.info.gsn g.committed) as (λ b. cond b (joins (bare e) (bare_group g) (bare e).at_end (bare e).info.coherent_set_gsn) (didPush (pushed (bare e) (bare_group g))) ≡ bare_did (cond b (joins e g e.at_end e.info.coherent_set_gsn) (didPush (pushed e g)))) [
+      ap (λ b. cond b (joins (bare e) (bare_group g) (bare e).at_end (bare e).info.coherent_set_gsn) (did_push (pushed (bare e) (bare_group g)))) (above_bare e g)
+      ∙ (elim (le_z e.info.gsn g.committed) as (λ b. cond b (joins (bare e) (bare_group g) (bare e).at_end (bare e).info.coherent_set_gsn) (did_push (pushed (bare e) (bare_group g))) ≡ bare_did (cond b (joins e g e.at_end e.info.coherent_set_gsn) (did_push (pushed e g)))) [
         | true ↦ joins_own e g
-        | false ↦ ap didPush (pushed_bare e g)
+        | false ↦ ap did_push (pushed_bare e g)
       ])
 
   told_bare : (w : Guid) (f : Progress → Progress) (g : Group I) → with_writer w f (bare_group g) ≡ bare_group (with_writer w f g)
@@ -455,19 +455,19 @@ module _ {I : Type 0} where
       ∙ offer_to_bare e (with_writer e.writer f g)
 
   group_did : (d : Did I) → group_of (bare_did d) ≡ bare_group (group_of d)
-  group_did (didPush g) = refl
-  group_did (didJoin g) = refl
-  group_did (didCount g) = refl
+  group_did (did_push g) = refl
+  group_did (did_join g) = refl
+  group_did (did_count g) = refl
 
   late_did : (d : Did I) (c : ReleaseCounts) → late_if (bare_did d) c ≡ late_if d c
-  late_did (didPush g) c = refl
-  late_did (didJoin g) c = refl
-  late_did (didCount g) c = refl
+  late_did (did_push g) c = refl
+  late_did (did_join g) c = refl
+  late_did (did_count g) c = refl
 
   pub fate_did : (d : Did I) → fate_of (bare_did d) ≡ fate_of d
-  fate_did (didPush g) = refl
-  fate_did (didJoin g) = refl
-  fate_did (didCount g) = refl
+  fate_did (did_push g) = refl
+  fate_did (did_join g) = refl
+  fate_did (did_count g) = refl
 
   put_bare : (o : GroupOrder I) (key : Guid) (d : Did I) → record { groups = insert guids key (group_of (bare_did d)) (bare_order o).groups; timeout = (bare_order o).timeout; counts = late_if (bare_did d) (bare_order o).counts } ≡ bare_order (record { groups = insert guids key (group_of d) o.groups; timeout = o.timeout; counts = late_if d o.counts })
   unfolding bare_order
@@ -496,9 +496,9 @@ module _ {I : Type 0} where
       ∙ ap (λ m. not (is_some (get pairs (e.writer, e.reader) m))) (ends_bare (or_default no_set (get numbers z g.sets)))
 
   pub adds_bare : (d : Did I) (e : Entry I) (g : Group I) → adds (bare_did d) (bare e) (bare_group g) ≡ adds d e g
-  adds_bare (didPush h) e g = refl
-  adds_bare (didJoin h) e g = ap (λ z. new_end (bare e) (bare_group g) z) (bare_set_lem e) ∙ new_end_bare e g e.info.coherent_set_gsn
-  adds_bare (didCount h) e g = refl
+  adds_bare (did_push h) e g = refl
+  adds_bare (did_join h) e g = ap (λ z. new_end (bare e) (bare_group g) z) (bare_set_lem e) ∙ new_end_bare e g e.info.coherent_set_gsn
+  adds_bare (did_count h) e g = refl
 
   -- ---- heartbeat and gap
 

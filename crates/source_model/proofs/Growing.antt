@@ -16,7 +16,7 @@ use Rattle.rules.specs.Release.{View, malformed}
 use Rattle.rules.specs.Run.{Call, offers, heartbeats, gaps, releases}
 use Rattle.laws.proofs.Lists.{and_true, and_left, and_right}
 use Rattle.source_model.specs.Map.{numbers, or_default, get, remove}
-use Rattle.source_model.specs.Source.{Entry, OpenSet, no_set, Group, GroupView, GroupOrder, ReleaseCounts, first_of, late, discarding, skips, Did, didPush, didJoin, didCount, late_if, offer_does, offer_entry, offer, heartbeat, gap, with_sets, Loop, commit_to, commit, complete, finish_if, finish_set, stale, drop_if, drop_all, commit_each, waited, as_u64, taken, take_next, take_if, is_ready, at_head, all_ends, finish_or, at_ended, turn, or_return, release_group, release_each, release}
+use Rattle.source_model.specs.Source.{Entry, OpenSet, no_set, Group, GroupView, GroupOrder, ReleaseCounts, first_of, late, discarding, skips, Did, did_push, did_join, did_count, late_if, offer_does, offer_entry, offer, heartbeat, gap, with_sets, Loop, commit_to, commit, complete, finish_if, finish_set, stale, drop_if, drop_all, commit_each, waited, as_u64, taken, take_next, take_if, is_ready, at_head, all_ends, finish_or, at_ended, turn, or_return, release_group, release_each, release}
 use Rattle.source_model.specs.Calls.{end_w, item_w, group_info, info_of, view_of, ninth, pair33, samples, offer_refusal, offer_unless, done_unless, release_unless, step, run}
 use Rattle.source_model.specs.Claim.{below}
 
@@ -130,9 +130,9 @@ module _ {I : Type 0} where
       then c m.counts (release_each turns view now timeout gs m.out m.counts).1.1 (loop_grows x.0 view now timeout turns (record { group = x.1; out = out; counts = c })) (each_grows turns view now timeout gs m.out m.counts)
 
   did_grows : (d : Did I) (c : ReleaseCounts) → Grows c (late_if d c)
-  did_grows (didPush g) c = same c
-  did_grows (didJoin g) c = same c
-  did_grows (didCount g) c = grows_late c
+  did_grows (did_push g) c = same c
+  did_grows (did_join g) c = same c
+  did_grows (did_count g) c = grows_late c
 
 module _ {X : Type 0} where
   offer_grows : (u : Option ℕ) (o : GroupOrder X) (x : Offer X) → Grows o.counts (offer_unless u o x).1.counts

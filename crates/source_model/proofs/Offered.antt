@@ -14,7 +14,7 @@ use Rattle.guids.specs.Guid.{Guid, same_guid}
 use Rattle.rules.specs.Entry.{What, sample, set_end, Entry, is_sample_w, same_set, of_group, in_set, marks}
 use Rattle.rules.specs.State.{State, Writer, Counts, plus, is_group, committed_in, committed_of}
 use Rattle.rules.specs.Marks.{number, hear_group, saw, tell}
-use Rattle.rules.specs.Offer.{Offer, Fate, isStored, isJoined, isLate, fate, one_late, with_marks, entry_of, shares, replaced, marked, mark_of, join, place, heard_offer}
+use Rattle.rules.specs.Offer.{Offer, Fate, is_stored, is_joined, is_late, fate, one_late, with_marks, entry_of, shares, replaced, marked, mark_of, join, place, heard_offer}
 use Rattle.rules.specs.Offer as F
 use Rattle.laws.proofs.Lists.{keep_same, keep_keep, any_empty, and_never, all_snoc, find_any, none_some}
 use Rattle.guids.proofs.Guids.{same_refl}
@@ -22,7 +22,7 @@ use Rattle.rules.proofs.Keeping.{join_all}
 use Rattle.rules.proofs.Hearing.{committed_cons}
 use Rattle.source_model.specs.Claim.{cut, cut_counts}
 use Rattle.source_model.specs.Map.{guids, numbers, pairs, or_default, get, insert}
-use Rattle.source_model.specs.Source.{SetEnd, OpenSet, no_set, GroupOrder, ReleaseCounts, sees, no_group, with_writer, pushed, with_sets, with_end, Did, didPush, didJoin, didCount, join_or, joins, offer_to, group_of, late, late_if, first_of}
+use Rattle.source_model.specs.Source.{SetEnd, OpenSet, no_set, GroupOrder, ReleaseCounts, sees, no_group, with_writer, pushed, with_sets, with_end, Did, did_push, did_join, did_count, join_or, joins, offer_to, group_of, late, late_if, first_of}
 use Rattle.source_model.specs.Source as S
 use Rattle.source_model.specs.Calls.{end_w, item_w, fate_of, new_end, adds}
 use Rattle.source_model.proofs.Maps.{guids_lawful, insert_ascends}
@@ -187,7 +187,7 @@ module _ {X : Type 0} (o : GroupOrder X) (s : State X) (x : Offer X) (l : Like o
     pub adds_same : adds d (offer_entry x) old ≡ F.adds f s x
     pub like : Like (record { groups = insert guids x.group (group_of d) o.groups; timeout = o.timeout; counts = late_if d o.counts }) (place f (entry_of x) (heard_offer x s))
 
-  goes_late : Goes (didCount after) isLate
+  goes_late : Goes (did_count after) is_late
   unfolding F.adds place heard_offer with_marks after told old
   goes_late = record {
     fate_same = refl;
@@ -218,7 +218,7 @@ module _ {X : Type 0} (o : GroupOrder X) (s : State X) (x : Offer X) (l : Like o
   unfolding flat pushed after with_writer
   push_flat e = refl
 
-  goes_push : x.number ≡ pos (number x.number) → ltb (number old.committed) (number x.number) ≡ true → Goes (didPush (pushed (offer_entry x) after)) isStored
+  goes_push : x.number ≡ pos (number x.number) → ltb (number old.committed) (number x.number) ≡ true → Goes (did_push (pushed (offer_entry x) after)) is_stored
   unfolding F.adds place heard_offer with_marks told
   goes_push e q = record {
     fate_same = refl;
@@ -304,7 +304,7 @@ module _ {X : Type 0} (o : GroupOrder X) (s : State X) (x : Offer X) (l : Like o
       ∙ find_any (λ h. replaced (entry_of x) h) s.held)
 
   goes_join : (z : ℤ) (e : SetEnd) (t : OpenSet X) → x.set ≡ some z → end_w x.what ≡ some e → get numbers z after.sets ≡ some t
-      → Goes (didJoin (with_sets (insert numbers z (with_end x.writer x.reader e t) after.sets) after)) isJoined
+      → Goes (did_join (with_sets (insert numbers z (with_end x.writer x.reader e t) after.sets) after)) is_joined
   unfolding F.adds place heard_offer with_marks told
   goes_join z e t a b c = record {
     fate_same = refl;
@@ -363,7 +363,7 @@ module _ {X : Type 0} (o : GroupOrder X) (s : State X) (x : Offer X) (l : Like o
   entry_number = refl
 
   goes_which : (t : Bool) → ltb (number old.committed) (number x.number) ≡ t
-      → Goes (cond (not t) (joins (offer_entry x) after (offer_entry x).at_end (offer_entry x).info.coherent_set_gsn) (didPush (pushed (offer_entry x) after)))
+      → Goes (cond (not t) (joins (offer_entry x) after (offer_entry x).at_end (offer_entry x).info.coherent_set_gsn) (did_push (pushed (offer_entry x) after)))
       (fate t (not (is_sample_w x.what) && any (λ h. shares (entry_of x) h) s.held))
   unfolding offer_entry
   goes_which true e = goes_push (above_whole x.number (number old.committed) e) e
@@ -374,7 +374,7 @@ module _ {X : Type 0} (o : GroupOrder X) (s : State X) (x : Offer X) (l : Like o
   offer_goes =
       let j : Bool = not (is_sample_w x.what) && any (λ h. shares (entry_of x) h) s.held in
       let a : Did X = joins (offer_entry x) after (offer_entry x).at_end (offer_entry x).info.coherent_set_gsn in
-      let b : Did X = didPush (pushed (offer_entry x) after) in
+      let b : Did X = did_push (pushed (offer_entry x) after) in
       let t : Bool = ltb (number old.committed) (number x.number) in
       let c : le_z (offer_entry x).info.gsn after.committed ≡ not t =
       ap (λ n. le_z n after.committed) entry_number ∙ ap (λ k. le_z x.number k) (after_committed ∙ old_committed) ∙ not_above x.number (number old.committed) in

@@ -13,7 +13,7 @@ use Rattle.rules.specs.Entry.{Entry, is_sample}
 use Rattle.rules.specs.State.{State, Group, fresh}
 use Rattle.rules.specs.State as St
 use Rattle.rules.specs.Commit.{Turn}
-use Rattle.rules.specs.Offer.{Offer, Fate, isStored, isJoined, isLate, ninth, pair33, adds, entry_of, marked, fate_of, offer_refusal, place, heard_offer, offered, offer, with_marks}
+use Rattle.rules.specs.Offer.{Offer, Fate, is_stored, is_joined, is_late, ninth, pair33, adds, entry_of, marked, fate_of, offer_refusal, place, heard_offer, offered, offer, with_marks}
 use Rattle.rules.specs.Release.{View, turn_of, work_of, back_to, released, release_refusal, released_if, release}
 use Rattle.rules.specs.Run.{Call, offers, heartbeats, gaps, releases, step, waiting}
 use Rattle.laws.proofs.Lists.{all_snoc, all_yes, and_left, and_right, count_none}
@@ -45,9 +45,9 @@ module _ {X : Type 0} where
 
   placed : (k : Fate) (o : Offer X) (s : State X) → ltb 7 o.reader ≡ false → Readers s → Readers (place k (entry_of o) (heard_offer o s))
   unfolding place heard_offer with_marks
-  placed isStored o s e r = record { pending = all_snoc (λ e. small e) s.pending (entry_of o) r.pending (own o e); held = r.held }
-  placed isJoined o s e r = record { pending = r.pending; held = join_all (λ e. small e) (λ m e. blind m e) (entry_of o) s.held (own o e) r.held }
-  placed isLate o s e r = record { pending = r.pending; held = r.held }
+  placed is_stored o s e r = record { pending = all_snoc (λ e. small e) s.pending (entry_of o) r.pending (own o e); held = r.held }
+  placed is_joined o s e r = record { pending = r.pending; held = join_all (λ e. small e) (λ m e. blind m e) (entry_of o) s.held (own o e) r.held }
+  placed is_late o s e r = record { pending = r.pending; held = r.held }
 
   offer_readers : (u : Option ℕ) (s : State X) (o : Offer X) → offer_refusal s o ≡ u → Readers s → Readers (offered u s o).1
   unfolding offer_refusal

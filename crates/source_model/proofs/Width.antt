@@ -19,7 +19,7 @@ use Rattle.rules.specs.Release.{View, malformed}
 use Rattle.rules.specs.Run.{Call, offers, heartbeats, gaps, releases}
 use Rattle.laws.proofs.Lists.{and_true, and_left, and_right, all_keep, all_imp, all_and, all_both, not_both}
 use Rattle.source_model.specs.Map.{Order, guids, numbers, or_default, get, insert, entry, remove, ascends}
-use Rattle.source_model.specs.Source.{SetEnd, Entry, Progress, OpenSet, no_set, Group, no_group, GroupView, GroupOrder, ReleaseCounts, HeartbeatInfo, sees, heard, gap_to, first_of, new, with_writer, pushed, with_sets, with_end, didPush, join_or, joins, offer_to, group_of, offer_does, offer_entry, offer, announce, heartbeat, gap, Loop, with_member, ended, take_in, commit_to, commit, complete, finish_if, finish_set, stale, drop_if, drop_all, commit_each, taken, take_next, take_if, is_ready, waited, as_u64, at_head, all_ends, finish_or, at_ended, turn, or_return, release_group, release_each, release}
+use Rattle.source_model.specs.Source.{SetEnd, Entry, Progress, OpenSet, no_set, Group, no_group, GroupView, GroupOrder, ReleaseCounts, HeartbeatInfo, sees, heard, gap_to, first_of, new, with_writer, pushed, with_sets, with_end, did_push, join_or, joins, offer_to, group_of, offer_does, offer_entry, offer, announce, heartbeat, gap, Loop, with_member, ended, take_in, commit_to, commit, complete, finish_if, finish_set, stale, drop_if, drop_all, commit_each, taken, take_next, take_if, is_ready, waited, as_u64, at_head, all_ends, finish_or, at_ended, turn, or_return, release_group, release_each, release}
 use Rattle.source_model.specs.Calls.{end_w, item_w, group_info, entry_of, info_of, view_of, ninth, pair33, samples, offer_refusal, offer_unless, done_unless, release_unless, step}
 use Rattle.source_model.specs.Width.{is_i64, end_fits, head_fits, set_fits, at_fits, turn_fits, if_goes, loop_fits, each_fits, what_fits, call_fits, step_fits, run_fits}
 use Rattle.source_model.proofs.Maps.{Lawful, numbers_lawful, pairs_lawful, insert_all, insert_ascends, remove_ascends}
@@ -179,7 +179,7 @@ module _ {I : Type 0} where
   offer_to_fit : (e : Entry I) (g : Group I) → lt_z e.info.gsn (pos (2 ^ 63)) ≡ true → entry_fits e ≡ true → Fit g → Fit (group_of (offer_to e g))
   unfolding offer_to entry_fits
   offer_to_fit e g b d h =
-      (elim (le_z e.info.gsn g.committed) as (λ t. le_z e.info.gsn g.committed ≡ t → Fit (group_of (cond t (joins e g e.at_end e.info.coherent_set_gsn) (didPush (pushed e g))))) [
+      (elim (le_z e.info.gsn g.committed) as (λ t. le_z e.info.gsn g.committed ≡ t → Fit (group_of (cond t (joins e g e.at_end e.info.coherent_set_gsn) (did_push (pushed e g))))) [
         | true ↦ λ a. joins_fit e g e.at_end e.info.coherent_set_gsn d h
         | false ↦ λ a. pushed_fit e g (le_or_lt e.info.gsn g.committed a) b d h
       ]) refl

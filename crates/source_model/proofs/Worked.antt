@@ -7,7 +7,7 @@ use lib.IntN.{pos, negsuc}
 use Rattle.laws.specs.Lists.{keep, all, any, count, find, is_some}
 use Rattle.guids.specs.Guid.{compare_guid, same_guid, before}
 use Rattle.rules.specs.Commit.{accepted, secure_accepted}
-use Rattle.rules.specs.Offer.{Fate, isStored, isJoined, isLate, refusal}
+use Rattle.rules.specs.Offer.{Fate, is_stored, is_joined, is_late, refusal}
 use Rattle.rules.specs.Release.{View, malformed}
 use Rattle.rules.specs.Run.{Call}
 use Rattle.rules.proofs.Figures.{S, E, H, G, R, C, D, view, nobody, Line, ok, stored', joined', late', refused', out'}
@@ -16,9 +16,9 @@ use Rattle.source_model.specs.Source.{ReleaseCounts, GroupOrder, no_progress, is
 use Rattle.source_model.specs.Calls.{Told, told_refused, told_done, told_offered, told_released, info_of, group_info, entry_of, view_of, group_at, ninth, pair33, stored_in, stored, samples_in, samples, offer_refusal, step}
 
 abbrev line_f : Fate → Line
-line_f isStored = stored'
-line_f isJoined = joined'
-line_f isLate = late'
+line_f is_stored = stored'
+line_f is_joined = joined'
+line_f is_late = late'
 
 abbrev line : Told ℕ → ReleaseCounts → Line
 line (told_refused n) c = refused' n

@@ -5,12 +5,12 @@ use Rattle.laws.specs.Lists.{keep, count, is_some}
 use Rattle.guids.specs.Guid.{Guid, same_guid}
 use Rattle.rules.specs.Entry.{What, sample, set_end}
 use Rattle.rules.specs.Entry as F
-use Rattle.rules.specs.Offer.{Offer, Heartbeat, Fate, isStored, isJoined, isLate, refusal}
+use Rattle.rules.specs.Offer.{Offer, Heartbeat, Fate, is_stored, is_joined, is_late, refusal}
 use Rattle.rules.specs.Commit.{accepted, secure_accepted}
 use Rattle.rules.specs.Release.{View, malformed}
 use Rattle.rules.specs.Run.{Call, offers, heartbeats, gaps, releases, Said, is_refused, is_offered, is_done, is_released}
 use Rattle.source_model.specs.Map.{guids, numbers, pairs, or_default, get, collect}
-use Rattle.source_model.specs.Source.{SetEnd, Info, Entry, HeartbeatInfo, no_set, Group, no_group, GroupView, GroupOrder, sum_of, Did, didPush, didJoin, didCount, offer_does, offer, heartbeat, gap, release, item_of}
+use Rattle.source_model.specs.Source.{SetEnd, Info, Entry, HeartbeatInfo, no_set, Group, no_group, GroupView, GroupOrder, sum_of, Did, did_push, did_join, did_count, offer_does, offer, heartbeat, gap, release, item_of}
 
 -- an offer brings a sample or an end, never both
 abbrev pub end_w : {X : Type 0} → What X → Option SetEnd
@@ -70,9 +70,9 @@ module _ {X : Type 0} where
   samples o = sum_of (λ x. samples_in x.1) o.groups
 
   abbrev pub fate_of : Did X → Fate
-  fate_of (didPush g) = isStored
-  fate_of (didJoin g) = isJoined
-  fate_of (didCount g) = isLate
+  fate_of (did_push g) = is_stored
+  fate_of (did_join g) = is_joined
+  fate_of (did_count g) = is_late
 
   -- the pair has no end yet in the set
   abbrev pub new_end : Entry X → Group X → Option ℤ → Bool
@@ -80,9 +80,9 @@ module _ {X : Type 0} where
   new_end e g (some z) = not (is_some (get pairs (e.writer, e.reader) (or_default no_set (get numbers z g.sets)).ends))
 
   abbrev pub adds : Did X → Entry X → Group X → Bool
-  adds (didPush h) e g = true
-  adds (didJoin h) e g = new_end e g e.info.coherent_set_gsn
-  adds (didCount h) e g = false
+  adds (did_push h) e g = true
+  adds (did_join h) e g = new_end e g e.info.coherent_set_gsn
+  adds (did_count h) e g = false
 
   unfoldable pub offer_refusal : GroupOrder X → Offer X → Option ℕ
   offer_refusal o x =

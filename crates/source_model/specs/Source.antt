@@ -235,33 +235,33 @@ module _ {I : Type 0} where
 
 -- what an offer did: pushed, joined a set, counted late
 pub data Did (I : Type 0) : Type 0 where
-  didPush didJoin didCount : Group I → Did I
+  did_push did_join did_count : Group I → Did I
 
 module _ {I : Type 0} where
   -- if let Some(set) = g.sets.get_mut(&first)
   abbrev pub join_or : Guid → ℕ → SetEnd → ℤ → Group I → Option (OpenSet I) → Did I
-  join_or writer reader e first g none = didCount g
-  join_or writer reader e first g (some s) = didJoin (with_sets (insert numbers first (with_end writer reader e s) g.sets) g)
+  join_or writer reader e first g none = did_count g
+  join_or writer reader e first g (some s) = did_join (with_sets (insert numbers first (with_end writer reader e s) g.sets) g)
 
   -- if let (Some(end), Some(first)) = (end, info.coherent_set_gsn)
   abbrev pub joins : Entry I → Group I → Option SetEnd → Option ℤ → Did I
-  joins e g none s = didCount g
-  joins e g (some x) none = didCount g
+  joins e g none s = did_count g
+  joins e g (some x) none = did_count g
   joins e g (some x) (some first) = join_or e.writer e.reader x first g (get numbers first g.sets)
 
   -- the rest of offer, once the progress is told
   unfoldable pub offer_to : Entry I → Group I → Did I
-  offer_to e g = cond (le_z e.info.gsn g.committed) (joins e g e.at_end e.info.coherent_set_gsn) (didPush (pushed e g))
+  offer_to e g = cond (le_z e.info.gsn g.committed) (joins e g e.at_end e.info.coherent_set_gsn) (did_push (pushed e g))
 
   abbrev pub group_of : Did I → Group I
-  group_of (didPush g) = g
-  group_of (didJoin g) = g
-  group_of (didCount g) = g
+  group_of (did_push g) = g
+  group_of (did_join g) = g
+  group_of (did_count g) = g
 
   abbrev pub late_if : Did I → ReleaseCounts → ReleaseCounts
-  late_if (didPush g) c = c
-  late_if (didJoin g) c = c
-  late_if (didCount g) c = late c
+  late_if (did_push g) c = c
+  late_if (did_join g) c = c
+  late_if (did_count g) c = late c
 
   -- what it does in its group
   unfoldable pub offer_does : GroupOrder I → Guid → Entry I → ℕ → Did I

@@ -1,7 +1,7 @@
 -- `release_all`: the case of the item's kind.
 use mathlib.Core.Path.{ap}
 use Rattle.coherent_hold.specs.declared.gate.Kind.TheVariants.{End}
-use Rattle.coherent_hold.specs.Gate.{is_sample, isLifecycle, item_as, kind_as}
+use Rattle.coherent_hold.specs.Gate.{is_sample, is_lifecycle, item_as, kind_as}
 use Rattle.coherent_hold.proofs.GateCalls.{after_told}
 use Rattle.coherent_hold.proofs.gate.release_all.Goals as goal
 
@@ -11,7 +11,7 @@ returns-in-Sample c = after_told _ _ _ _ is_sample _ _ _ (ap kind_as c.in-Sample
 
 pub returns-in-Lifecycle : goal.returns-in-Lifecycle
 unfolding item_as kind_as
-returns-in-Lifecycle c = after_told _ _ _ _ isLifecycle _ _ _ (ap kind_as c.in-Lifecycle.is) c.follow-in-Lifecycle.ensures
+returns-in-Lifecycle c = after_told _ _ _ _ is_lifecycle _ _ _ (ap kind_as c.in-Lifecycle.is) c.follow-in-Lifecycle.ensures
 
 pub returns-in-End : goal.returns-in-End
 unfolding item_as kind_as
