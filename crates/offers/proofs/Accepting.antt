@@ -12,7 +12,7 @@ use Rattle.laws.specs.Lists.{any, is_some}
 use Rattle.rules.specs.Entry.{Entry, is_sample_w, of_group}
 use Rattle.rules.specs.State.{State, committed_of, stored}
 use Rattle.rules.specs.Marks.{number}
-use Rattle.rules.specs.Offer.{Offer, Fate, isStored, isJoined, isLate, refusal, ninth, pair33, with_marks, entry_of, shares, replaced, fate_of, adds, offer_refusal, place, heard_offer, offered, offer}
+use Rattle.rules.specs.Offer.{Offer, Fate, is_stored, is_joined, is_late, refusal, ninth, pair33, with_marks, entry_of, shares, replaced, fate_of, adds, offer_refusal, place, heard_offer, offered, offer}
 use Rattle.laws.proofs.Lists.{not_both, and_right, and_never, any_empty}
 use Rattle.rules.proofs.Fates.{fate_joined}
 use Rattle.rules.proofs.Reached.{refusal_first, refusal_rest}
@@ -84,21 +84,21 @@ module _ {X : Type 0} (s : State X) (o : Offer X) where
 
   -- ---- fates
 
-  pub fate_above : ltb (committed_of o.group s.groups) (number o.number) ≡ true → fate_of s o ≡ isStored
+  pub fate_above : ltb (committed_of o.group s.groups) (number o.number) ≡ true → fate_of s o ≡ is_stored
   unfolding fate_of
   fate_above a = rw a
 
-  pub fate_joins : ltb (committed_of o.group s.groups) (number o.number) ≡ false → not (is_sample_w o.what) && any (λ h. shares (entry_of o) h) s.held ≡ true → fate_of s o ≡ isJoined
+  pub fate_joins : ltb (committed_of o.group s.groups) (number o.number) ≡ false → not (is_sample_w o.what) && any (λ h. shares (entry_of o) h) s.held ≡ true → fate_of s o ≡ is_joined
   unfolding fate_of
   fate_joins a b = rw (a, b)
 
-  pub fate_late : ltb (committed_of o.group s.groups) (number o.number) ≡ false → not (is_sample_w o.what) && any (λ h. shares (entry_of o) h) s.held ≡ false → fate_of s o ≡ isLate
+  pub fate_late : ltb (committed_of o.group s.groups) (number o.number) ≡ false → not (is_sample_w o.what) && any (λ h. shares (entry_of o) h) s.held ≡ false → fate_of s o ≡ is_late
   unfolding fate_of
   fate_late a b = rw (a, b)
 
   -- ---- an end that joins has a set
 
-  pub joined_set : Accepted s o isJoined → is_some o.set ≡ true
+  pub joined_set : Accepted s o is_joined → is_some o.set ≡ true
   unfolding fate_of is_some entry_of
   joined_set a =
       let opened : Bool = any (λ h. shares (entry_of o) h) s.held in
@@ -110,11 +110,11 @@ module _ {X : Type 0} (s : State X) (o : Offer X) where
 
   -- ---- room: the marks leave what is stored
 
-  pub room_stored : Accepted s o isStored → stored (heard_offer o s) < 256
+  pub room_stored : Accepted s o is_stored → stored (heard_offer o s) < 256
   unfolding adds stored heard_offer with_marks
   room_stored a = leb-false 256 (length s.pending + length s.held) a.room
 
-  pub room_joined : Accepted s o isJoined → any (λ h. replaced (entry_of o) h) (heard_offer o s).held || ltb (stored (heard_offer o s)) 256 ≡ true
+  pub room_joined : Accepted s o is_joined → any (λ h. replaced (entry_of o) h) (heard_offer o s).held || ltb (stored (heard_offer o s)) 256 ≡ true
   unfolding adds stored heard_offer with_marks
   room_joined a = (elim (any (λ h. replaced (entry_of o) h) s.held) as (λ b. not b && leb 256 (length s.pending + length s.held) ≡ false → b || ltb (length s.pending + length s.held) 256 ≡ true) [
     | true ↦ λ e. refl

@@ -8,7 +8,7 @@ use lib.Dec.{eqb}
 use lib.ListN.{length, get_or, set, take}
 use lib.Seq.{get_or-set_same, get_or-set_other}
 use Rattle.rules.specs.State.{plus}
-use Rattle.rules.specs.Offer.{one_late, place, isStored}
+use Rattle.rules.specs.Offer.{one_late, place, is_stored}
 use Rattle.store.specs.Store.{Row, row_of, rows_in, rows_of, staged, counts_of, state_of, live}
 use Rattle.store.specs.Records.{entry_as, row_as, Asks, Removed}
 use Rattle.offers.specs.Steps.{Roomy, Appended, with_late}
@@ -59,11 +59,11 @@ appended n k x row l a b r e p =
     }
 
 -- an entry that is stored
-pub stored_as : (e : Entry) (l m : List ℕ) → Appended (min (get_or l 2 0) 256) (row_as 0 e) l m → state_of m ≡ place isStored (entry_as e) (state_of l)
+pub stored_as : (e : Entry) (l m : List ℕ) → Appended (min (get_or l 2 0) 256) (row_as 0 e) l m → state_of m ≡ place is_stored (entry_as e) (state_of l)
 unfolding state_of place rows_of row_as
 stored_as e l m a =
     let rs : List Row = rows_in (min (get_or l 2 0) 256) l in
-    state_eq (state_of m) (place isStored (entry_as e) (state_of l)) a.groups a.writers (a.pending ∙ staged_more rs (row_as 0 e)) (a.held ∙ staged_same 1 rs (row_as 0 e) (λ z. omega arith)) a.counts a.timeout
+    state_eq (state_of m) (place is_stored (entry_as e) (state_of l)) a.groups a.writers (a.pending ∙ staged_more rs (row_as 0 e)) (a.held ∙ staged_same 1 rs (row_as 0 e) (λ z. omega arith)) a.counts a.timeout
 
 -- ---- one more late offer
 

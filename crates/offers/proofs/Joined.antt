@@ -13,7 +13,7 @@ use Rattle.laws.specs.Lists.{any, keep, find, index_of}
 use Rattle.guids.specs.Guid.{Guid}
 use Rattle.rules.specs.Entry as E
 use Rattle.rules.specs.State.{stored}
-use Rattle.rules.specs.Offer.{entry_of, shares, replaced, marked, keep_end, join, place, isJoined}
+use Rattle.rules.specs.Offer.{entry_of, shares, replaced, marked, keep_end, join, place, is_joined}
 use Rattle.store.specs.Store.{Row, row_of, row_at, rows_in, rows_of, staged, state_of, live, row_mark}
 use Rattle.guids.specs.Keys.{key_as}
 use Rattle.store.specs.Records.{optional_as, what_as, moment_as, entry_as, row_as, fits, Asks, pair_in, Removed}
@@ -92,11 +92,11 @@ module _ (e : Entry) (l : List ℕ) where
       ]) refl
 
   pub joined_as : (q : Query) (k : ℕ) (kept : Entry) (a m : List ℕ) → Asks q 1 (λ h. replaced (entry_as e) h) → Removed q N k l a → Appended k (row_as 1 kept) a m
-      → entry_as kept ≡ marked (row_mark (find (λ x. fits q x) (rows_in N l))) (entry_as e) → state_of m ≡ place isJoined (entry_as e) (state_of l)
+      → entry_as kept ≡ marked (row_mark (find (λ x. fits q x) (rows_in N l))) (entry_as e) → state_of m ≡ place is_joined (entry_as e) (state_of l)
   unfolding state_of place rows_of row_as join keep_end
   joined_as q k kept a m s r d c =
       let p : E.Entry ℕ → Bool = λ h. replaced (entry_as e) h in
-      state_eq (state_of m) (place isJoined (entry_as e) (state_of l))
+      state_eq (state_of m) (place is_joined (entry_as e) (state_of l))
       (d.groups ∙ head_groups l a r.head) (d.writers ∙ head_writers l a r.head)
       (d.pending ∙ staged_same 0 (rows_in k a) (row_as 1 kept) (λ z. omega arith) ∙ removed_other q 1 p s N k l a r 0 (λ z. omega arith))
       (d.held ∙ staged_more (rows_in k a) (row_as 1 kept)

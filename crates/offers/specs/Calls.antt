@@ -48,9 +48,9 @@ gap_as g = record { group = g.group; writer = g.writer; reader = g.reader; numbe
 -- ---- answers: document 01's number and value of each case
 
 unfoldable pub offered_as : Offered → Answer O.Fate
-offered_as Stored = answered O.isStored
-offered_as Joined = answered O.isJoined
-offered_as Late = answered O.isLate
+offered_as Stored = answered O.is_stored
+offered_as Joined = answered O.is_joined
+offered_as Late = answered O.is_late
 offered_as ReaderAboveSeven = refused 1
 offered_as NinthGroup = refused 2
 offered_as PairOver32 = refused 3

@@ -1,7 +1,7 @@
 // An end at or below committed that joins its open set.
 ghost use Rattle.std.specs.Prelude.{◌≡◌, ◌≤◌};
 ghost use Rattle.laws.specs.Lists.{find};
-ghost use Rattle.rules.specs.Offer.{place, isJoined};
+ghost use Rattle.rules.specs.Offer.{place, is_joined};
 ghost use Rattle.store.specs.Store.{state_of, rows_in, row_mark};
 ghost use Rattle.guids.specs.Keys.{key_as};
 ghost use Rattle.store.specs.Records.{moment_as, entry_as, fits};
@@ -70,7 +70,7 @@ fn mark_of(store: &Store, n: usize, q: Query) -> Moment
 // An end joins its set, which it has, in place of its pair's earlier end, and takes that one's mark over.
 pub(crate) fn join_end(store: &mut Store, group: Key, writer: Key, e: Entry)
     requires { MayJoin (key_as group) (key_as writer) e (state_of store.old) }
-    ensures { state_of store.new ≡ place isJoined (entry_as e) (state_of store.old) }
+    ensures { state_of store.new ≡ place is_joined (entry_as e) (state_of store.old) }
 {
     let n = entry_count(store);
     let group_bytes = e.group;

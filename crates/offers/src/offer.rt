@@ -1,7 +1,7 @@
 // An offer: judged, its marks noted, then stored, joined or counted late.
 ghost use Rattle.std.specs.Prelude.{◌≡◌, ◌<◌, ◌^◌};
 ghost use Rattle.rules.specs.State.{stored};
-ghost use Rattle.rules.specs.Offer.{offer, entry_of, place, isStored};
+ghost use Rattle.rules.specs.Offer.{offer, entry_of, place, is_stored};
 ghost use Rattle.store.specs.Store.{state_of};
 ghost use Rattle.guids.specs.Keys.{key_as};
 ghost use Rattle.store.specs.Records.{entry_as};
@@ -122,7 +122,7 @@ fn note_offer(store: &mut Store, group: Key, writer: Key, reader: u8, number: u6
 
 fn store_pending(store: &mut Store, e: Entry)
     requires { (stored (state_of store.old) < 256) × (e.number < 2 ^ 63) }
-    ensures { state_of store.new ≡ place isStored (entry_as e) (state_of store.old) }
+    ensures { state_of store.new ≡ place is_stored (entry_as e) (state_of store.old) }
 {
     let n = entry_count(store);
     append(store, n, e, 0);

@@ -21,7 +21,7 @@ pub fn participant_group_key(writer: [u8; 16]) -> [u8; 16]
 }
 
 // What an item of a GROUP-scope publisher's writer brings beside its writer.
-#[derive(Drop)]
+#[derive(Clone, Copy)]
 pub struct GroupMark {
     pub number: i64,
     pub set: Optional,
@@ -29,7 +29,7 @@ pub struct GroupMark {
 }
 
 // Whether an item has group information, and whether its writer's announcement named the group.
-#[derive(Drop)]
+#[derive(Clone, Copy)]
 pub enum Grouping {
     Plain,
     Unnamed(GroupMark),
@@ -37,7 +37,7 @@ pub enum Grouping {
 }
 
 // An item off a reader's channel. `group` is the group that was named.
-#[derive(Drop)]
+#[derive(Clone, Copy)]
 pub struct GroupItem {
     pub grouping: Grouping,
     pub group: [u8; 16],
@@ -47,7 +47,7 @@ pub struct GroupItem {
     pub time: u64,
 }
 
-#[derive(Drop)]
+#[derive(Clone, Copy)]
 pub enum Ordered {
     GivenBack,
     Taken(Offered),

@@ -1,3 +1,5 @@
 // The subscriber turn of presentation.rs of the source: items and the offers that they make, and the steps of a turn.
+#![tactic(auto)]
+
 pub mod items;
 pub mod steps;

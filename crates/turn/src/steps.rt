@@ -13,7 +13,7 @@ use readings::readings::{ReleaseCounts, sample_count};
 use release::release::{Released, release_noted};
 
 // What a writer's last heartbeat said.
-#[derive(Drop)]
+#[derive(Clone, Copy)]
 pub struct Beat {
     pub first: i64,
     pub last: i64,
@@ -22,14 +22,14 @@ pub struct Beat {
     pub secure: Digest,
 }
 
-#[derive(Drop)]
+#[derive(Clone, Copy)]
 pub enum Heard {
     Nothing,
     Latest(Beat),
 }
 
 // A row of a turn: how far a writer has come for a reader.
-#[derive(Drop)]
+#[derive(Clone, Copy)]
 pub struct Progress {
     pub group: [u8; 16],
     pub writer: [u8; 16],
@@ -39,13 +39,13 @@ pub struct Progress {
 }
 
 // The places written, and by how much each count grew.
-#[derive(Drop)]
+#[derive(Clone, Copy)]
 pub struct Report {
     pub count: usize,
     pub grown: ReleaseCounts,
 }
 
-#[derive(Drop)]
+#[derive(Clone, Copy)]
 pub enum Turn {
     NothingWaits,
     Done(Report),
@@ -63,7 +63,7 @@ pub fn note_reader(view: &mut [u64; 1307], row: Progress)
 }
 
 // What becomes of a turn.
-#[derive(Drop)]
+#[derive(Clone, Copy)]
 pub enum Verdict {
     Goes,
     Idle,

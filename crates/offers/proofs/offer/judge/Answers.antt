@@ -8,7 +8,7 @@ use borrow.Author.Rules.{rules}
 use borrow.Author.Tests.{lt-ltb, le-ltb}
 use Rattle.rules.specs.State.{committed_of, stored}
 use Rattle.rules.specs.Marks.{number}
-use Rattle.rules.specs.Offer.{isStored, isJoined, isLate, ninth, pair33, adds, fate_of}
+use Rattle.rules.specs.Offer.{is_stored, is_joined, is_late, ninth, pair33, adds, fate_of}
 use Rattle.store.specs.Store.{state_of}
 use Rattle.offers.specs.Calls.{offer_as, offered_as}
 use Rattle.offers.specs.Steps.{Joins}
@@ -43,7 +43,7 @@ admitted c = record {
   pair = sym (pair_is c.before.before.before.before) ∙ c.if-pair.false;
 }
 
-stores : (c : After-clamp) → c.committed_of.result < c.clamp.result → fate_of (state_of c.args.store.now) (offer_as c.args.o) ≡ isStored
+stores : (c : After-clamp) → c.committed_of.result < c.clamp.result → fate_of (state_of c.args.store.now) (offer_as c.args.o) ≡ is_stored
 unfolding offer_as
 stores c h = fate_above (state_of c.args.store.now) (offer_as c.args.o) (sym (test_is c) ∙ lt-ltb _ _ h)
 
@@ -68,27 +68,27 @@ returns-then-pair c = sym (refused_pair (state_of c.args.store.now) (offer_as c.
 
 pub returns-then-full : goal.returns-then-full
 unfolding offered_as adds
-returns-then-full c = sym (refused_full (state_of c.args.store.now) (offer_as c.args.o) isStored (admitted (goal.at.returns-then-full c).Else-pair) (stores (goal.at.returns-then-full c).After-clamp c.if-committed_of-clamp.true) (sym c.is_full-full.ensures ∙ c.if-full.true))
+returns-then-full c = sym (refused_full (state_of c.args.store.now) (offer_as c.args.o) is_stored (admitted (goal.at.returns-then-full c).Else-pair) (stores (goal.at.returns-then-full c).After-clamp c.if-committed_of-clamp.true) (sym c.is_full-full.ensures ∙ c.if-full.true))
 
 pub returns-then-committed_of-clamp : goal.returns-then-committed_of-clamp
 unfolding offered_as adds
-returns-then-committed_of-clamp c = sym (ap (λ x. x.0) (accepted (state_of c.args.store.now) (offer_as c.args.o) isStored (record { admitted = admitted (goal.at.returns-then-committed_of-clamp c).Else-pair; fate = stores (goal.at.returns-then-committed_of-clamp c).After-clamp c.if-committed_of-clamp.true; room = sym c.is_full-full.ensures ∙ c.if-full.false })))
+returns-then-committed_of-clamp c = sym (ap (λ x. x.0) (accepted (state_of c.args.store.now) (offer_as c.args.o) is_stored (record { admitted = admitted (goal.at.returns-then-committed_of-clamp c).Else-pair; fate = stores (goal.at.returns-then-committed_of-clamp c).After-clamp c.if-committed_of-clamp.true; room = sym c.is_full-full.ensures ∙ c.if-full.false })))
 
 pub returns-then-full-2 : goal.returns-then-full-2
 unfolding offered_as adds offer_as Joins
 returns-then-full-2 c = let j = joins_at (goal.at.returns-then-full-2 c).After-join_of _ c.in-Adds.is in
-    sym (refused_full (state_of c.args.store.now) (offer_as c.args.o) isJoined (admitted (goal.at.returns-then-full-2 c).Else-pair) (fate_joins (state_of c.args.store.now) (offer_as c.args.o) (not_above (goal.at.returns-then-full-2 c).After-clamp c.if-committed_of-clamp.false) j.0)
+    sym (refused_full (state_of c.args.store.now) (offer_as c.args.o) is_joined (admitted (goal.at.returns-then-full-2 c).Else-pair) (fate_joins (state_of c.args.store.now) (offer_as c.args.o) (not_above (goal.at.returns-then-full-2 c).After-clamp c.if-committed_of-clamp.false) j.0)
     (ap (λ b. not b && leb 256 (stored (state_of c.args.store.now))) j.1 ∙ sym c.is_full-full.ensures ∙ c.if-full-2.true))
 
 pub returns-in-Nothing : goal.returns-in-Nothing
 unfolding offered_as adds offer_as Joins
 returns-in-Nothing c = let j = joins_at (goal.at.returns-in-Nothing c).After-join_of _ c.in-Nothing.is in
-    sym (ap (λ x. x.0) (accepted (state_of c.args.store.now) (offer_as c.args.o) isLate (record { admitted = admitted (goal.at.returns-in-Nothing c).Else-pair; fate = fate_late (state_of c.args.store.now) (offer_as c.args.o) (not_above (goal.at.returns-in-Nothing c).After-clamp c.if-committed_of-clamp.false) j; room = refl })))
+    sym (ap (λ x. x.0) (accepted (state_of c.args.store.now) (offer_as c.args.o) is_late (record { admitted = admitted (goal.at.returns-in-Nothing c).Else-pair; fate = fate_late (state_of c.args.store.now) (offer_as c.args.o) (not_above (goal.at.returns-in-Nothing c).After-clamp c.if-committed_of-clamp.false) j; room = refl })))
 
 pub returns-in-Replaces : goal.returns-in-Replaces
 unfolding offered_as adds offer_as Joins
 returns-in-Replaces c = let j = joins_at (goal.at.returns-in-Replaces c).After-join_of _ c.in-Replaces.is in
-    sym (ap (λ x. x.0) (accepted (state_of c.args.store.now) (offer_as c.args.o) isJoined (record {
+    sym (ap (λ x. x.0) (accepted (state_of c.args.store.now) (offer_as c.args.o) is_joined (record {
       admitted = admitted (goal.at.returns-in-Replaces c).Else-pair;
       fate = fate_joins (state_of c.args.store.now) (offer_as c.args.o) (not_above (goal.at.returns-in-Replaces c).After-clamp c.if-committed_of-clamp.false) j.0;
       room = ap (λ b. not b && leb 256 (stored (state_of c.args.store.now))) j.1;
@@ -97,7 +97,7 @@ returns-in-Replaces c = let j = joins_at (goal.at.returns-in-Replaces c).After-j
 pub returns-else-full-2 : goal.returns-else-full-2
 unfolding offered_as adds offer_as Joins
 returns-else-full-2 c = let j = joins_at (goal.at.returns-else-full-2 c).After-join_of _ c.in-Adds.is in
-    sym (ap (λ x. x.0) (accepted (state_of c.args.store.now) (offer_as c.args.o) isJoined (record {
+    sym (ap (λ x. x.0) (accepted (state_of c.args.store.now) (offer_as c.args.o) is_joined (record {
       admitted = admitted (goal.at.returns-else-full-2 c).Else-pair;
       fate = fate_joins (state_of c.args.store.now) (offer_as c.args.o) (not_above (goal.at.returns-else-full-2 c).After-clamp c.if-committed_of-clamp.false) j.0;
       room = ap (λ b. not b && leb 256 (stored (state_of c.args.store.now))) j.1 ∙ sym c.is_full-full.ensures ∙ c.if-full-2.false;

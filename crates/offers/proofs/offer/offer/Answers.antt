@@ -9,7 +9,7 @@ use Rattle.laws.specs.Answer.{Answer, refused, answered, Kept}
 use Rattle.laws.specs.Lists.{is_some}
 use Rattle.rules.specs.State.{State}
 use Rattle.rules.specs.Marks.{number}
-use Rattle.rules.specs.Offer.{Fate, isStored, isJoined, isLate, entry_of, place, heard_offer, offer}
+use Rattle.rules.specs.Offer.{Fate, is_stored, is_joined, is_late, entry_of, place, heard_offer, offer}
 use Rattle.store.specs.Store.{state_of}
 use Rattle.guids.specs.Keys.{key_as}
 use Rattle.store.specs.Records.{entry_as}
@@ -61,20 +61,20 @@ stays c n e = (ap {B = Answer Fate × State ℕ} (λ x. (x, (state_of c.args.sto
 
 pub note_offer-requires : goal.note_offer-requires
 unfolding offered_as
-note_offer-requires c = opens (goal.at.note_offer-requires c).After-judge-answer isStored (judged (goal.at.note_offer-requires c).After-judge-answer isStored (ap (λ x. offered_as x) c.in-Stored.is))
+note_offer-requires c = opens (goal.at.note_offer-requires c).After-judge-answer is_stored (judged (goal.at.note_offer-requires c).After-judge-answer is_stored (ap (λ x. offered_as x) c.in-Stored.is))
 
 pub store_pending-requires : goal.store_pending-requires
 unfolding offered_as
-store_pending-requires c = let a = judged (goal.at.store_pending-requires c).After-judge-answer isStored (ap (λ x. offered_as x) c.in-Stored.is) in
+store_pending-requires c = let a = judged (goal.at.store_pending-requires c).After-judge-answer is_stored (ap (λ x. offered_as x) c.in-Stored.is) in
     (rw (c.note_offer.ensures ∙ heard_is (goal.at.store_pending-requires c).After-judge-answer) (room_stored _ _ a), c.entry_of-e.ensures.low)
 
 pub note_offer-requires-in-Joined : goal.note_offer-requires-in-Joined
 unfolding offered_as
-note_offer-requires-in-Joined c = opens (goal.at.note_offer-requires-in-Joined c).After-judge-answer isJoined (judged (goal.at.note_offer-requires-in-Joined c).After-judge-answer isJoined (ap (λ x. offered_as x) c.in-Joined.is))
+note_offer-requires-in-Joined c = opens (goal.at.note_offer-requires-in-Joined c).After-judge-answer is_joined (judged (goal.at.note_offer-requires-in-Joined c).After-judge-answer is_joined (ap (λ x. offered_as x) c.in-Joined.is))
 
 pub join_end-requires : goal.join_end-requires
 unfolding offered_as entry_as entry_of offer_as
-join_end-requires c = let a = judged (goal.at.join_end-requires c).After-judge-answer isJoined (ap (λ x. offered_as x) c.in-Joined.is) in
+join_end-requires c = let a = judged (goal.at.join_end-requires c).After-judge-answer is_joined (ap (λ x. offered_as x) c.in-Joined.is) in
     let e = entry_is (goal.at.join_end-requires c).After-judge-answer in
     record {
       group = c.pack-group.ensures ∙ sym (ap (λ x. x.group) e);
@@ -86,24 +86,24 @@ join_end-requires c = let a = judged (goal.at.join_end-requires c).After-judge-a
 
 pub note_late-requires : goal.note_late-requires
 unfolding offered_as
-note_late-requires c = opens (goal.at.note_late-requires c).After-judge-answer isLate (judged (goal.at.note_late-requires c).After-judge-answer isLate (ap (λ x. offered_as x) c.in-Late.is))
+note_late-requires c = opens (goal.at.note_late-requires c).After-judge-answer is_late (judged (goal.at.note_late-requires c).After-judge-answer is_late (ap (λ x. offered_as x) c.in-Late.is))
 
 pub returns-in-Stored : goal.returns-in-Stored
 unfolding offered_as
 returns-in-Stored c =
-    let t = leaves (goal.at.returns-in-Stored c).After-judge-answer isStored _ _ (ap (λ x. offered_as x) c.in-Stored.is) (c.note_offer.ensures ∙ heard_is (goal.at.returns-in-Stored c).After-judge-answer) c.store_pending.ensures in
+    let t = leaves (goal.at.returns-in-Stored c).After-judge-answer is_stored _ _ (ap (λ x. offered_as x) c.in-Stored.is) (c.note_offer.ensures ∙ heard_is (goal.at.returns-in-Stored c).After-judge-answer) c.store_pending.ensures in
     record { is = t.0; kept = t.1 }
 
 pub returns-in-Joined : goal.returns-in-Joined
 unfolding offered_as
 returns-in-Joined c =
-    let t = leaves (goal.at.returns-in-Joined c).After-judge-answer isJoined _ _ (ap (λ x. offered_as x) c.in-Joined.is) (c.note_offer-in-Joined.ensures ∙ heard_is (goal.at.returns-in-Joined c).After-judge-answer) c.join_end.ensures in
+    let t = leaves (goal.at.returns-in-Joined c).After-judge-answer is_joined _ _ (ap (λ x. offered_as x) c.in-Joined.is) (c.note_offer-in-Joined.ensures ∙ heard_is (goal.at.returns-in-Joined c).After-judge-answer) c.join_end.ensures in
     record { is = t.0; kept = t.1 }
 
 pub returns-in-Late : goal.returns-in-Late
 unfolding offered_as with_late place
 returns-in-Late c =
-    let t = leaves (goal.at.returns-in-Late c).After-judge-answer isLate _ _ (ap (λ x. offered_as x) c.in-Late.is) (heard_is (goal.at.returns-in-Late c).After-judge-answer) c.note_late.ensures in
+    let t = leaves (goal.at.returns-in-Late c).After-judge-answer is_late _ _ (ap (λ x. offered_as x) c.in-Late.is) (heard_is (goal.at.returns-in-Late c).After-judge-answer) c.note_late.ensures in
     record { is = t.0; kept = t.1 }
 
 pub returns-in-ReaderAboveSeven : goal.returns-in-ReaderAboveSeven

@@ -5,15 +5,10 @@ use mir.Syntax.{w64}
 use Rattle.offers.specs.Calls.{offer_as}
 use Rattle.turn.specs.Items.{offer_by}
 use borrow.Author.Rules.{rules}
-use Rattle.turn.proofs.items.offer_by.Statement.{statement}
-use Rattle.turn.proofs.items.offer_by.Tie as tie
+use Rattle.turn.proofs.items.offer_by.Goals as goal
 
-returns : tie.Need-returns
+pub returns : goal.returns
 unfolding offer_as offer_by
-returns c =
-    let z = c.before.before.args.mark.number in
+returns c = let z = c.args.mark.number in
     let back : to_z w64 (of_z w64 z) ≡ z = search rules in
     rw back
-
-pub offer-by-spec : {M : Type 1} → statement M
-offer-by-spec = tie.close (tie.spec returns)
