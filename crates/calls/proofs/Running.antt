@@ -10,7 +10,7 @@ use Rattle.laws.specs.Answer.{Answer, refused, answered, Kept}
 use Rattle.decimal.specs.Print.{put}
 use Rattle.decimal.proofs.Lengths.{printed_long}
 use Rattle.rules.specs.State.{State, fresh}
-use Rattle.rules.specs.Offer.{Fate, isStored, isJoined, isLate}
+use Rattle.rules.specs.Offer.{Fate, is_stored, is_joined, is_late}
 use Rattle.group_view.specs.View.{pair_as, digest_row_as, Cleared, Noted, NotedDigest}
 use Rattle.group_view.specs.declared.view.Pair as P
 use Rattle.group_view.specs.declared.view.DigestRow as D
@@ -29,9 +29,9 @@ refused_long n = omega (arith, printed_long n)
 
 pub offer_long : (a : Answer Fate) → length (offer_text a) ≤ 28
 offer_long (refused n) = refused_long n
-offer_long (answered isStored) = omega arith
-offer_long (answered isJoined) = omega arith
-offer_long (answered isLate) = omega arith
+offer_long (answered is_stored) = omega arith
+offer_long (answered is_joined) = omega arith
+offer_long (answered is_late) = omega arith
 
 pub done_long : (a : Answer (Unit {0})) → length (done_text a) ≤ 28
 done_long (refused n) = refused_long n

@@ -6,7 +6,7 @@ use Rattle.laws.specs.Answer.{Answer, refused, answered}
 use Rattle.decimal.specs.Print.{digits_of}
 use Rattle.rules.specs.Entry.{What, sample, set_end, Entry}
 use Rattle.rules.specs.State.{State, Counts, fresh}
-use Rattle.rules.specs.Offer.{Fate, isStored, isJoined, isLate, offer, heartbeat, gap}
+use Rattle.rules.specs.Offer.{Fate, is_stored, is_joined, is_late, offer, heartbeat, gap}
 use Rattle.rules.specs.Sets.{Pair}
 use Rattle.rules.specs.Commit.{DigestRow}
 use Rattle.rules.specs.Release.{View, Outcome, release}
@@ -44,9 +44,9 @@ ok = 111 ∷ 107 ∷ []
 
 -- `stored`, `joined`, `late`
 abbrev pub fate_text : Fate → List ℕ
-fate_text isStored = 115 ∷ 116 ∷ 111 ∷ 114 ∷ 101 ∷ 100 ∷ []
-fate_text isJoined = 106 ∷ 111 ∷ 105 ∷ 110 ∷ 101 ∷ 100 ∷ []
-fate_text isLate = 108 ∷ 97 ∷ 116 ∷ 101 ∷ []
+fate_text is_stored = 115 ∷ 116 ∷ 111 ∷ 114 ∷ 101 ∷ 100 ∷ []
+fate_text is_joined = 106 ∷ 111 ∷ 105 ∷ 110 ∷ 101 ∷ 100 ∷ []
+fate_text is_late = 108 ∷ 97 ∷ 116 ∷ 101 ∷ []
 
 -- `refused` and its number
 unfoldable pub refused_text : ℕ → List ℕ

@@ -1,4 +1,6 @@
 // The call list of document 01: what its lines do and print.
+#![tactic(auto)]
+
 pub mod list;
 pub mod run;
 mod say;

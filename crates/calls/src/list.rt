@@ -10,7 +10,7 @@ use group_view::view::clear;
 use history::order::GroupOrder;
 
 // Where the next answer goes, and where the line that was run ends.
-#[derive(Drop)]
+#[derive(Clone, Copy)]
 struct Step {
     at: usize,
     end: usize,

@@ -1,2 +1,4 @@
 // The subscriber turn: GroupOrdering of presentation.rs of the source.
+#![tactic(auto)]
+
 pub mod ordering;

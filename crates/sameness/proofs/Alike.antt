@@ -21,7 +21,7 @@ use Rattle.history.specs.Chain.{Done, did_offer, did_heartbeat, did_gap, did_rel
 use Rattle.history.specs.Chain as C
 use Rattle.history.proofs.Chained.{code_demand3}
 use Rattle.source_model.specs.Source.{item_of}
-use Rattle.source_model.specs.Calls.{Told, item_w, handed, told, answers}
+use Rattle.source_model.specs.Calls.{Told, item_w, handed, told}
 use Rattle.source_model.specs.Claim.{SameRun}
 use Rattle.source_model.proofs.Steps.{source_alike}
 use Rattle.sameness.specs.Same.{place_of, counted, written, Answers, AllAnswer, none, more, CodeSameRun}
@@ -99,6 +99,8 @@ all_answer : (cs : List (Call ℕ)) (s : State ℕ) (ds : List Done) → AllAgre
 unfolding D.answers
 all_answer [] s [] C.none = none
 all_answer (c ∷ cs) s (d ∷ ds) (C.more x rest) = more (answers_one (D.step s c).0 d (plain_step s c) x) (all_answer cs (D.step s c).1 ds rest)
+all_answer [] s (d ∷ ds) x'' = elim x'' [ ]
+all_answer (c ∷ cs) s [] x3 = elim x3 [ ]
 
 pub code_alike : (turns t : ℕ) (l m : List ℕ) (ds : List Done) → 513 ≤ turns → state_of l ≡ fresh t → Chain l ds m → CodeSameRun turns t ds m
 code_alike turns t l m ds f e c =

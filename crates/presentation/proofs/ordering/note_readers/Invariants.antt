@@ -1,0 +1,11 @@
+-- `note_readers`: what the rows from i on do to the words is what all rows do to the words at the start.
+use Rattle.std.proofs.Common.{length, ◌-◌, ℕ, List, drop}
+use Rattle.group_view.specs.View.{Steps}
+use Rattle.turn.specs.Turn.{NotedReader}
+use Rattle.presentation.proofs.ordering.note_readers.Given as goal
+
+abbrev pub invariant-loop-i : goal.invariant-loop-i
+invariant-loop-i l = (z : List ℕ) → Steps NotedReader (drop l.i l.rows) l.view z → Steps NotedReader l.rows l.initial.view z
+
+abbrev pub decreases-loop-i : goal.decreases-loop-i
+decreases-loop-i l = length l.rows - l.i
