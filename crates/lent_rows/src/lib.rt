@@ -1,4 +1,6 @@
-// The first rows of arrays, lent as lists of records to the calls that take them, for programs: no covered function can. Both are proved by hand.
+// The first rows of arrays, lent as lists of records to the calls that take them, for programs.
+#![tactic(auto)]
+
 ghost use Rattle.std.specs.Prelude.{◌≡◌, map, min, take};
 ghost use Rattle.store.specs.Store.{state_of};
 ghost use Rattle.group_view.specs.View.{rows_as};

@@ -1,4 +1,4 @@
-// The history of a subscriber that orders by group, and its turn: GroupOrdering of the source. Its functions over rows are proved by hand.
+// The history of a subscriber that orders by group, and its turn: GroupOrdering of the source.
 ghost use Rattle.std.specs.Prelude.{◌≡◌};
 ghost use Rattle.rules.specs.State.{fresh};
 ghost use Rattle.rules.specs.Run.{waiting};
