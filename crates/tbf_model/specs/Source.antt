@@ -31,7 +31,7 @@ abbrev pub new : Hold
 new = []
 
 unfoldable pub hold : Hold → ℕ → ℕ → Time → ℕ → Hold
-hold held instance sample arrival minimumSeparationNanos = insert readers instance (sample, time_after arrival minimumSeparationNanos) held
+hold held instance sample arrival minimum_separation_nanos = insert readers instance (sample, time_after arrival minimum_separation_nanos) held
 
 unfoldable pub supersede : Hold → ℕ → Hold
 supersede held instance = remove readers instance held
