@@ -15,7 +15,7 @@ fn main() {
     if !library.exists() {
         eprintln!(
             "The benchmark needs the port, and {} isn't there.\n\
-             Make it with `rt staticlib calls`, or set GUBRESTAL_STATICLIB to its folder.",
+             Make it with `tools/staticlib`, or set GUBRESTAL_STATICLIB to its folder.",
             library.display()
         );
         process::exit(1)

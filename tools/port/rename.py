@@ -6,7 +6,8 @@ usage: python3 tools/port/rename.py [FOLDER]
 Run once on a tree that port.py has turned. A name is turned where it is declared in specs/ or proofs/ of a crate and
 is in camel case from a lower letter, or has a dash between words; a dash at a name with a capital stays. A lemma that
 would get its definition's name ends in _lem. Names of the kit's libraries, names that the check makes and names of
-src/ stay. The crate hex becomes hex_digits. It prints the names that fall together in a file.
+src/ stay. The crate hex becomes hex_digits, the module steps
+of turn turn_steps. It prints the names that fall together in a file.
 """
 import os
 import re
@@ -224,7 +225,31 @@ def move_crates():
                 open(p, "w", encoding="utf-8").write(made)
 
 
-gather_fields()
-main()
-more()
-move_crates()
+# turn's module has the name of a library.
+MODULES = {("turn", "steps"): "turn_steps"}
+
+
+def move_modules():
+    for (c, a), b in MODULES.items():
+        here = f"{ROOT}/crates/{c}"
+        os.rename(f"{here}/src/{a}.rt", f"{here}/src/{b}.rt")
+        if os.path.isdir(f"{here}/proofs/{a}"):
+            os.rename(f"{here}/proofs/{a}", f"{here}/proofs/{b}")
+        for p, sub, fn in files(ROOT):
+            t = open(p, encoding="utf-8").read()
+            made = re.sub(rf"(?<![\w.:]){c}::{a}::", f"{c}::{b}::", t)
+            made = re.sub(rf"\bRattle\.{c}\.(proofs|specs\.declared|specs\.contracts)\.{a}\.", rf"Rattle.{c}.\1.{b}.", made)
+            if f"/crates/{c}/" in p:
+                made = re.sub(rf"\bcrate::{a}::", f"crate::{b}::", made)
+                made = re.sub(rf"(?m)^(pub )?mod {a};", rf"\1mod {b};", made)
+            if made != t:
+                open(p, "w", encoding="utf-8").write(made)
+
+
+if __name__ == "__main__":
+    if "--modules" not in sys.argv:
+        gather_fields()
+        main()
+        more()
+        move_crates()
+    move_modules()

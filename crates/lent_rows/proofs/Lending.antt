@@ -12,8 +12,8 @@ use Rattle.laws.specs.Answer.{Kept}
 use Rattle.release.specs.Released.{released_as, release_to}
 use Rattle.release.specs.declared.release.Released.{Released}
 use Rattle.turn.specs.Turn.{row_as, turn_as, turn_to, TurnKept}
-use Rattle.turn.specs.declared.steps.Progress.{Progress}
-use Rattle.turn.specs.declared.steps.Turn.{Turn}
+use Rattle.turn.specs.declared.turn_steps.Progress.{Progress}
+use Rattle.turn.specs.declared.turn_steps.Turn.{Turn}
 
 pub min_most : (n most k : ℕ) → k ≡ min n most → k ≤ most
 min_most n most k e = omega (arith, e)

@@ -11,7 +11,7 @@ use group_view::view::{DigestRow, Pair};
 use history::order::GroupOrder;
 use presentation::ordering::GroupOrdering;
 use release::release::Released;
-use turn::steps::{Progress, Turn};
+use turn::turn_steps::{Progress, Turn};
 
 // At most so many as the list has places.
 fn to_64(n: usize) -> usize

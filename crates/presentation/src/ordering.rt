@@ -10,7 +10,7 @@ ghost use Rattle.turn.specs.Turn.{turn_as, Turns, TurnKept, NotedReader, Applies
 use group_view::view::{DigestRow, Pair, note_digests, note_pairs};
 use history::order::GroupOrder;
 use turn::items::{GroupItem, Ordered, offer_item};
-use turn::steps::{Progress, Turn, admits, apply_row, finish, goes, note_reader};
+use turn::turn_steps::{Progress, Turn, admits, apply_row, finish, goes, note_reader};
 
 fn note_readers(view: &mut [u64; 1307], rows: &[Progress])
     ensures { Steps NotedReader rows.now view.old view.new }

@@ -32,12 +32,12 @@ use Rattle.group_view.proofs.Noting.{or_false, noted_rows, over_malformed, noted
 use Rattle.history.proofs.Noting.{zeros_cleared, noted_release}
 use Rattle.turn.specs.Turn.{Range, Row, beat_call, beat_calls, gap_calls, row_calls, applied, rows_calls, Turned, idle, not_done, since, report_of, reported, judged, turn_by, turn_to, AsCalls, range_as, heard_as, row_as, turn_as, TurnKept, verdict_as, NotedReader, go_of, judged_noted, Applies, ended_by, Ended}
 use Rattle.turn.specs.Turn as T
-use Rattle.turn.specs.declared.steps.Beat.{Beat}
-use Rattle.turn.specs.declared.steps.Heard.{Heard}
-use Rattle.turn.specs.declared.steps.Progress.{Progress}
-use Rattle.turn.specs.declared.steps.Heard.TheVariants.{Nothing, Latest}
-use Rattle.turn.specs.declared.steps.Verdict.{Verdict}
-use Rattle.turn.specs.declared.steps.Turn.{Turn}
+use Rattle.turn.specs.declared.turn_steps.Beat.{Beat}
+use Rattle.turn.specs.declared.turn_steps.Heard.{Heard}
+use Rattle.turn.specs.declared.turn_steps.Progress.{Progress}
+use Rattle.turn.specs.declared.turn_steps.Heard.TheVariants.{Nothing, Latest}
+use Rattle.turn.specs.declared.turn_steps.Verdict.{Verdict}
+use Rattle.turn.specs.declared.turn_steps.Turn.{Turn}
 
 -- the view as the rows left it
 pub record NotedTurn (rows : List Progress) (ps : List Pair) (ds : List DigestRow) (v : List ℕ) : Type 0 where

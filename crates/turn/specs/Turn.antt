@@ -17,14 +17,14 @@ use Rattle.release.specs.Released.{release_to, release_noted}
 use Rattle.history.specs.Chain.{counted}
 use Rattle.group_view.specs.declared.view.Pair.{Pair}
 use Rattle.group_view.specs.declared.view.DigestRow.{DigestRow}
-use Rattle.turn.specs.declared.steps.Beat.{Beat}
-use Rattle.turn.specs.declared.steps.Heard.{Heard}
-use Rattle.turn.specs.declared.steps.Heard.TheVariants.{Nothing, Latest}
-use Rattle.turn.specs.declared.steps.Progress.{Progress}
-use Rattle.turn.specs.declared.steps.Verdict.{Verdict}
-use Rattle.turn.specs.declared.steps.Verdict.TheVariants.{Goes, Idle, Malformed, Short}
-use Rattle.turn.specs.declared.steps.Turn.{Turn}
-use Rattle.turn.specs.declared.steps.Turn.TheVariants.{NothingWaits, Done, MalformedView, ListTooShort}
+use Rattle.turn.specs.declared.turn_steps.Beat.{Beat}
+use Rattle.turn.specs.declared.turn_steps.Heard.{Heard}
+use Rattle.turn.specs.declared.turn_steps.Heard.TheVariants.{Nothing, Latest}
+use Rattle.turn.specs.declared.turn_steps.Progress.{Progress}
+use Rattle.turn.specs.declared.turn_steps.Verdict.{Verdict}
+use Rattle.turn.specs.declared.turn_steps.Verdict.TheVariants.{Goes, Idle, Malformed, Short}
+use Rattle.turn.specs.declared.turn_steps.Turn.{Turn}
+use Rattle.turn.specs.declared.turn_steps.Turn.TheVariants.{NothingWaits, Done, MalformedView, ListTooShort}
 
 -- ---- rows of a turn
 

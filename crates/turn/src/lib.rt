@@ -2,4 +2,4 @@
 #![tactic(auto)]
 
 pub mod items;
-pub mod steps;
+pub mod turn_steps;

@@ -4,7 +4,7 @@ use call_line::line::{LineGap, LineHeartbeat};
 use call_line::parse::{Parsed, parse};
 use decimal::{field_end, put_bytes};
 use group_view::view::{DigestRow, Pair};
-use turn::steps::{Beat, Heard, Progress};
+use turn::turn_steps::{Beat, Heard, Progress};
 
 // One counted row and one digest row more than a view takes, so that there can be too many.
 #[derive(Drop)]

@@ -6,7 +6,7 @@ use fields::{field_count, long_at};
 use history::order::GroupOrder;
 use lent_rows::{take_release, take_turn};
 use release::release::Released;
-use turn::steps::Turn;
+use turn::turn_steps::Turn;
 
 pub(crate) type Store = [u64; 6984];
 

@@ -1,4 +1,4 @@
--- `turn::steps::admits` meets its contract: the first of the tests that holds.
+-- `turn::turn_steps::admits` meets its contract: the first of the tests that holds.
 use mathlib.Core.Bool.{◌||◌}
 use mathlib.Core.Path.{sym, ◌∙◌}
 use native.Mathlib.Omega.{arith}
@@ -10,7 +10,7 @@ use Rattle.group_view.specs.View.{more, view_of}
 use Rattle.store.specs.Store.{state_of}
 use Rattle.turn.specs.Turn.{verdict_as, judged_noted}
 use Rattle.turn.proofs.TurnLaws.{judge_malformed, judge_idle, judge_short, judge_goes}
-use Rattle.turn.proofs.steps.admits.Goals as goal
+use Rattle.turn.proofs.turn_steps.admits.Goals as goal
 
 pub returns-then-is_malformed : goal.returns-then-is_malformed
 unfolding verdict_as judged_noted

@@ -1,11 +1,11 @@
--- `turn::steps::apply_row` meets its contract: a known pair is told of the heartbeat, then of the gap.
+-- `turn::turn_steps::apply_row` meets its contract: a known pair is told of the heartbeat, then of the gap.
 use mathlib.Core.Path.{◌≡◌, sym, ◌∙◌}
 use mir.Val.{to_z, of_z}
 use mir.Syntax.{w64}
 use Rattle.store.specs.Store.{state_of}
 use Rattle.turn.proofs.TurnLaws.{row_known, row_unknown, row_left}
 use borrow.Author.Rules.{rules}
-use Rattle.turn.proofs.steps.apply_row.Goals as goal
+use Rattle.turn.proofs.turn_steps.apply_row.Goals as goal
 
 pub returns-then-knows : goal.returns-then-knows
 unfolding state_of

@@ -1,7 +1,7 @@
--- `turn::steps::difference` meets its contract: each count apart.
+-- `turn::turn_steps::difference` meets its contract: each count apart.
 use Rattle.readings.specs.Counts.{counts_as}
 use Rattle.turn.specs.Turn.{since}
-use Rattle.turn.proofs.steps.difference.Goals as goal
+use Rattle.turn.proofs.turn_steps.difference.Goals as goal
 
 pub returns : goal.returns
 unfolding counts_as since

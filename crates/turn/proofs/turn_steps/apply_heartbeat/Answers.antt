@@ -1,4 +1,4 @@
--- `turn::steps::apply_heartbeat` meets its contract: the history's heartbeat, if there is one.
+-- `turn::turn_steps::apply_heartbeat` meets its contract: the history's heartbeat, if there is one.
 use mathlib.Core.Path.{◌≡◌}
 use mir.Val.{to_z, of_z}
 use mir.Syntax.{w64}
@@ -6,7 +6,7 @@ use Rattle.offers.specs.Calls.{told_as, heartbeat_as}
 use Rattle.store.specs.Store.{state_of}
 use Rattle.turn.proofs.TurnLaws.{beat_done, beat_none}
 use borrow.Author.Rules.{rules}
-use Rattle.turn.proofs.steps.apply_heartbeat.Goals as goal
+use Rattle.turn.proofs.turn_steps.apply_heartbeat.Goals as goal
 
 pub returns-in-Nothing : goal.returns-in-Nothing
 returns-in-Nothing c = beat_none (state_of c.args.store.now) c.args.group c.args.writer c.args.heartbeat c.in-Nothing.is

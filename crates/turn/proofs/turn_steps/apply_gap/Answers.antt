@@ -1,4 +1,4 @@
--- `turn::steps::apply_gap` meets its contract: the history's gap, where the end is above 0.
+-- `turn::turn_steps::apply_gap` meets its contract: the history's gap, where the end is above 0.
 use mathlib.Core.Bool.{true, false}
 use mathlib.Core.Path.{◌≡◌}
 use lib.Signed.{lt_z}
@@ -9,7 +9,7 @@ use Rattle.offers.specs.Calls.{told_as, gap_as}
 use Rattle.store.specs.Store.{state_of}
 use Rattle.turn.proofs.TurnLaws.{gap_done, gap_none}
 use borrow.Author.Rules.{rules}
-use Rattle.turn.proofs.steps.apply_gap.Goals as goal
+use Rattle.turn.proofs.turn_steps.apply_gap.Goals as goal
 
 pub returns-then-end-gt0 : goal.returns-then-end-gt0
 unfolding gap_as

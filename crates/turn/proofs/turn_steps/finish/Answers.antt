@@ -1,8 +1,8 @@
--- `turn::steps::finish` meets its contract: a release, or the answer alone.
+-- `turn::turn_steps::finish` meets its contract: a release, or the answer alone.
 use mathlib.Core.Path.{refl, sym, ap, subst}
 use Rattle.store.specs.Store.{state_of}
 use Rattle.turn.specs.Turn.{turn_as, TurnKept, verdict_as, Ended, ended_by}
-use Rattle.turn.proofs.steps.finish.Goals as goal
+use Rattle.turn.proofs.turn_steps.finish.Goals as goal
 
 pub returns-in-Goes : goal.returns-in-Goes
 unfolding verdict_as

@@ -1,6 +1,6 @@
--- `turn::steps::goes` meets its contract: true of one verdict alone.
+-- `turn::turn_steps::goes` meets its contract: true of one verdict alone.
 use Rattle.turn.specs.Turn.{go_of, verdict_as}
-use Rattle.turn.proofs.steps.goes.Goals as goal
+use Rattle.turn.proofs.turn_steps.goes.Goals as goal
 
 pub returns-in-Goes : goal.returns-in-Goes
 unfolding go_of verdict_as

@@ -1,4 +1,4 @@
--- `turn::steps::release_counted` meets its contract: a release, and the counts before and after it.
+-- `turn::turn_steps::release_counted` meets its contract: a release, and the counts before and after it.
 use Prim.{tt}
 use mathlib.Core.Path.{◌≡◌, sym, ap, ◌∙◌}
 use Rattle.laws.specs.Answer.{answered, refused, Kept}
@@ -7,7 +7,7 @@ use Rattle.readings.specs.Counts.{counts_as}
 use Rattle.store.specs.Store.{state_of}
 use Rattle.turn.specs.Turn.{turn_as, TurnKept, since}
 use Rattle.turn.proofs.TurnLaws.{report_done, report_not}
-use Rattle.turn.proofs.steps.release_counted.Goals as goal
+use Rattle.turn.proofs.turn_steps.release_counted.Goals as goal
 
 pub returns-in-Out : goal.returns-in-Out
 unfolding turn_as TurnKept released_as

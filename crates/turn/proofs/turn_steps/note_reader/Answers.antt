@@ -1,11 +1,11 @@
--- `turn::steps::note_reader` meets its contract: the view is spoiled where the reader is above 7.
+-- `turn::turn_steps::note_reader` meets its contract: the view is spoiled where the reader is above 7.
 use mathlib.Core.Bool.{◌||◌}
 use mathlib.Core.Path.{refl, sym, ◌∙◌, ap}
 use borrow.Author.Tests.{lt-ltb, le-ltb}
 use Rattle.laws.proofs.Lists.{or_true_right}
 use Rattle.group_view.specs.View.{more}
 use Rattle.group_view.proofs.Noting.{or_false}
-use Rattle.turn.proofs.steps.note_reader.Goals as goal
+use Rattle.turn.proofs.turn_steps.note_reader.Goals as goal
 
 pub returns-then-row-gt7 : goal.returns-then-row-gt7
 returns-then-row-gt7 c = let v = c.args.view.now in
