@@ -33,7 +33,7 @@ fn apply_rows(store: &mut [u64; 6984], rows: &[Progress], go: bool)
 }
 
 // The history of a subscriber that orders by group.
-#[derive(Drop)]
+#[derive(Clone, Copy)]
 pub struct GroupOrdering {
     pub words: [u64; 6984],
 }
