@@ -1,4 +1,6 @@
 // Document 01's call list: reads calls from standard input, one a line, and prints each answer on a line.
+#![tactic(auto)]
+
 ghost use Rattle.std.specs.Prelude.{◌≤◌};
 
 use calls::run::run_line;
@@ -7,6 +9,7 @@ use group_view::view::clear;
 use history::order::GroupOrder;
 use line_input::{begin, next_line};
 use line_output::{Output, before_line, gather, nothing};
+use std::io::Write;
 
 // No good line has more than 129 bytes, so one that is cut to fit is bad, as it was.
 type Line = [u8; 256];
@@ -21,16 +24,25 @@ fn end_line(out: &mut Out, at: usize) -> usize {
 }
 
 // Gathers the first bytes of an answer, where it has so many.
-fn gather_first(room: &mut Room, output: Output, said: &Out, length: usize) -> Output {
+fn gather_first<W: Write, E: Eprint>(
+    writer: &mut W,
+    errors: &E,
+    room: &mut Room,
+    output: Output,
+    said: &Out,
+    length: usize,
+) -> Output {
     let text: &[u8] = said;
     if length <= text.len() {
-        return gather(room, output, &text[0..length]);
+        return gather(writer, errors, room, output, &text[0..length]);
     }
     output
 }
 
 // Gathers the answer to the first bytes of a line.
-fn answer(
+fn answer<W: Write, E: Eprint>(
+    writer: &mut W,
+    errors: &E,
     store: &mut [u64; 6984],
     view: &mut [u64; 1307],
     line: &Line,
@@ -44,33 +56,35 @@ fn answer(
     let line: &[u8] = line;
     let n = run_line(store, view, &line[0..length], said);
     let end = end_line(said, n);
-    gather_first(room, output, said, end)
+    gather_first(writer, errors, room, output, said, end)
 }
 
-// So that the loop is seen to end, it counts down from more lines than any run has.
-fn main() {
+// So that the loop is seen to end, it counts more lines than any run has.
+fn main(rt: HostRuntime) {
     let fresh = GroupOrder::new(GroupOrder::GROUP_TIMEOUT);
     let mut store = fresh.words;
     let mut view = [0u64; 1307];
     clear(&mut view);
-    let mut chunk = io::large_buffer();
+    let mut stdin = rt.stdin();
+    let mut chunk = [0u8; 65536];
     let mut line = [0u8; 256];
     let mut said = [0u8; 4096];
-    let mut room = io::large_buffer();
+    let mut stdout = rt.stdout();
+    let mut room = [0u8; 65536];
     let mut output = nothing();
     let mut input = begin();
-    let mut turns = u64::MAX;
-    while 0 < turns {
-        turns -= 1;
-        output = before_line(&room, output, &chunk, input);
+    for _ in 0..u64::MAX {
+        output = before_line(&mut stdout, &rt, &room, output, &chunk, input);
         if output.broken {
             return;
         }
-        let next = next_line(&mut chunk, input, &mut line);
+        let next = next_line(&mut stdin, &mut chunk, input, &mut line);
         if !next.more {
             return;
         }
         output = answer(
+            &mut stdout,
+            &rt,
             &mut store,
             &mut view,
             &line,

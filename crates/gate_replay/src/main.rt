@@ -8,6 +8,8 @@
 // An answer is `out`, each item written as kind:writer:set:item, `|`, the member number of the incomplete set or `-`, and
 // how many members are held then. Access is 0 or 1; writer k is fifteen zero bytes and k; set, own and complete may be `-`,
 // absent; places are whole items of the lent list. Any other line is `bad`. Before the first line the hold is empty.
+#![tactic(auto)]
+
 ghost use Rattle.std.specs.Prelude.{◌≤◌};
 
 use call_line::field::number_if;
@@ -15,8 +17,8 @@ use coherent_hold::gate::{CoherentHold, CoherentSetEnd, Flag, GateAnswer, Gated,
 use coherent_set::signed_of;
 use decimal::{put_bytes, put_signed, put_unsigned};
 use fields::{byte_at, field_count, long_at, only_byte, word_at};
-use libc::STDOUT_FILENO;
 use line_input::{begin, next_line};
+use std::io;
 use store::entry::Optional;
 
 // Room for every answer: 65 items of 38 bytes.
@@ -254,38 +256,44 @@ fn run_line(hold: CoherentHold, line: &[u8], out: &mut Out) -> Answer {
 
 // ---- the input
 
-fn print(out: &Out, length: usize) {
+fn print(rt: &impl Print, out: &Out, length: usize) -> io::Result<()> {
     let text: &[u8] = out;
     if length <= text.len() {
-        io::write_all(STDOUT_FILENO, &text[0..length]);
+        return rt.write_all(&text[0..length]);
     }
+    Ok(())
 }
 
 // Prints the answer to the first bytes of a line.
-fn answer_line(hold: CoherentHold, line: &Line, length: usize) -> CoherentHold
+fn answer_line(
+    rt: &impl Print,
+    hold: CoherentHold,
+    line: &Line,
+    length: usize,
+) -> io::Result<CoherentHold>
     requires { length ≤ 256 }
 {
     let line: &[u8] = line;
     let mut out = [0u8; 2560];
     let said = run_line(hold, &line[0..length], &mut out);
-    print(&out, said.length);
-    said.hold
+    print(rt, &out, said.length)?;
+    Ok(said.hold)
 }
 
-// So that the loop is seen to end, it counts down from more lines than any run has.
-fn main() {
+// So that the loop is seen to end, it counts more lines than any run has.
+fn main(rt: HostRuntime) -> io::Result<()> {
     let mut hold = CoherentHold::new();
-    let mut chunk = io::large_buffer();
+    let mut stdin = rt.stdin();
+    let mut chunk = [0u8; 65536];
     let mut line = [0u8; 256];
     let mut input = begin();
-    let mut turns = u64::MAX;
-    while 0 < turns {
-        turns -= 1;
-        let next = next_line(&mut chunk, input, &mut line);
+    for _ in 0..u64::MAX {
+        let next = next_line(&mut stdin, &mut chunk, input, &mut line);
         if !next.more {
-            return;
+            break;
         }
-        hold = answer_line(hold, &line, next.length);
+        hold = answer_line(&rt, hold, &line, next.length)?;
         input = next.input;
     }
+    Ok(())
 }

@@ -15,7 +15,9 @@ use Rattle.decimal.specs.Split.{stop_or, before, field_end}
 use Rattle.decimal.proofs.Splitting.{before_le}
 use Rattle.line_input.specs.declared.Input.{Input}
 use Rattle.line_input.specs.declared.Line.{Line}
-use Rattle.line_input.specs.Input.{input_to, line_to, left, has_line, LineOf, LineRead}
+use Rattle.std.specs.Prelude.{Option, None, Some}
+use Rattle.std.specs.Io.KnownBytes.{Consumes}
+use Rattle.line_input.specs.Input.{input_to, line_to, left, has_line, LineOf, LineRead, LineTaken}
 
 -- ---- where the first newline of two texts stands
 
@@ -41,25 +43,26 @@ before_in (b ∷ s) t h =
 
 -- ---- the line so far
 
--- nothing is read yet, or there was no newline and the chunk holds the last bytes that came
-unfoldable pub Since : List ℕ → List ℕ → List ℕ → ℕ → ℕ → List ℕ → ℕ → ℕ → Type 0
-Since came s chunk₀ at₀ count₀ chunk at count =
-    ((came ≡ []) × (chunk ≡ chunk₀) × (at ≡ at₀) × (count ≡ count₀))
+-- nothing is read yet, as U says, or there was no newline and the chunk holds the last bytes that came
+unfoldable pub Since : Type 0 → List ℕ → List ℕ → List ℕ → ℕ → ℕ → List ℕ → ℕ → ℕ → Type 0
+Since U came s chunk₀ at₀ count₀ chunk at count =
+    ((came ≡ []) × (chunk ≡ chunk₀) × (at ≡ at₀) × (count ≡ count₀) × U)
     ⊎ ((before 10 s < length s → ⊥) × ((earlier : List ℕ) × (came ≡ earlier ++ take count chunk)))
 
--- `taken` has no newline, and what is left of the chunk follows it
-pub record Taking (chunk₀ line₀ : List ℕ) (at₀ count₀ : ℕ) (chunk line : List ℕ) (at count n : ℕ) : Type 0 where
+-- `taken` has no newline, and what is left of the chunk follows it; P is known of the bytes that came
+pub record Taking (U : Type 0) (P : List ℕ → Type 0) (chunk₀ line₀ : List ℕ) (at₀ count₀ : ℕ) (chunk line : List ℕ) (at count n : ℕ) : Type 0 where
   pub came : List ℕ
   pub taken : List ℕ
   pub all : drop at₀ (take count₀ chunk₀) ++ came ≡ taken ++ drop at (take count chunk)
   pub clear : before 10 taken ≡ length taken
   pub long : n ≡ min (length taken) 256
   pub text : line ≡ take n taken ++ drop n line₀
-  pub since : Since came (drop at₀ (take count₀ chunk₀)) chunk₀ (at₀ + length taken) count₀ chunk at count
+  pub known : P came
+  pub since : Since U came (drop at₀ (take count₀ chunk₀)) chunk₀ (at₀ + length taken) count₀ chunk at count
 
-pub start : (chunk line : List ℕ) (at count : ℕ) → Taking chunk line at count chunk line at count 0
+pub start : (U : Type 0) (P : List ℕ → Type 0) (chunk line : List ℕ) (at count : ℕ) → U → P [] → Taking U P chunk line at count chunk line at count 0
 unfolding before Since
-start chunk line at count =
+start U P chunk line at count u p =
     record {
       came = [];
       taken = [];
@@ -67,10 +70,13 @@ start chunk line at count =
       clear = refl;
       long = omega arith;
       text = refl;
-      since = inl (refl, refl, omega arith, refl);
+      known = p;
+      since = inl (refl, refl, omega arith, refl, u);
     }
 
-module _ {chunk₀ line₀ : List ℕ} {at₀ count₀ : ℕ} {chunk line : List ℕ} {at count n : ℕ} (t : Taking chunk₀ line₀ at₀ count₀ chunk line at count n) where
+module _
+    {U : Type 0} {P : List ℕ → Type 0} {chunk₀ line₀ : List ℕ} {at₀ count₀ : ℕ} {chunk line : List ℕ} {at count n : ℕ}
+    (t : Taking U P chunk₀ line₀ at₀ count₀ chunk line at count n) where
   abbrev s : List ℕ
   s = drop at₀ (take count₀ chunk₀)
 
@@ -94,12 +100,12 @@ module _ {chunk₀ line₀ : List ℕ} {at₀ count₀ : ℕ} {chunk line : List
     unfolding before stop_or
     more_clear = rw (before_on t.taken (b ∷ []) t.clear, ne_eqb b 10 not, length-append t.taken (b ∷ []))
 
-    more_since : Since t.came s chunk₀ (at₀ + length more) count₀ chunk (at + 1) count
+    more_since : Since U t.came s chunk₀ (at₀ + length more) count₀ chunk (at + 1) count
     unfolding Since
     more_since =
-        ⊎_elim (λ k. inl (k.0, k.1, omega (arith, k.2, length-append t.taken (b ∷ [])), k.3)) (λ k. inr k) t.since
+        ⊎_elim (λ k. inl (k.0, k.1, omega (arith, k.2, length-append t.taken (b ∷ [])), k.3, k.4)) (λ k. inr k) t.since
 
-    pub byte_put : n < 256 → n < length line₀ → Taking chunk₀ line₀ at₀ count₀ chunk (set line n b) (at + 1) count (n + 1)
+    pub byte_put : n < 256 → n < length line₀ → Taking U P chunk₀ line₀ at₀ count₀ chunk (set line n b) (at + 1) count (n + 1)
     byte_put h l =
         let p : length t.taken ≡ n = omega (arith, t.long) in
         let e = length-append t.taken (b ∷ []) in
@@ -112,10 +118,11 @@ module _ {chunk₀ line₀ : List ℕ} {at₀ count₀ : ℕ} {chunk line : List
           clear = more_clear;
           long = omega (arith, t.long);
           text = rw (q, set_at t.taken (get_or line₀ n 0) (drop (suc n) line₀) b n p, take_all (n + 1) more (omega arith), append_assoc, add-one);
+          known = t.known;
           since = more_since;
         }
 
-    pub byte_cut : 256 ≤ n → Taking chunk₀ line₀ at₀ count₀ chunk line (at + 1) count n
+    pub byte_cut : 256 ≤ n → Taking U P chunk₀ line₀ at₀ count₀ chunk line (at + 1) count n
     byte_cut h =
         let e = length-append t.taken (b ∷ []) in
         record {
@@ -125,6 +132,7 @@ module _ {chunk₀ line₀ : List ℕ} {at₀ count₀ : ℕ} {chunk line : List
           clear = more_clear;
           long = omega (arith, t.long);
           text = t.text ∙ rw (take-append-le n t.taken (b ∷ []) (omega (arith, t.long)));
+          known = t.known;
           since = more_since;
         }
 
@@ -137,9 +145,9 @@ module _ {chunk₀ line₀ : List ℕ} {at₀ count₀ : ℕ} {chunk line : List
     not_here h =
         omega (arith, h, before_in s t.came h, ap (λ x. before 10 x) taken_all, ap (λ x. length x) taken_all, t.clear, length-append s t.came)
 
-    pub read_on : (chunk' : List ℕ) (count' : ℕ) → Taking chunk₀ line₀ at₀ count₀ chunk' line 0 count' n
+    pub read_on : {U' : Type 0} {Q : List ℕ → Type 0} (chunk' : List ℕ) (count' : ℕ) → Q (t.came ++ take count' chunk') → Taking U' Q chunk₀ line₀ at₀ count₀ chunk' line 0 count' n
     unfolding Since
-    read_on chunk' count' =
+    read_on chunk' count' q =
         record {
           came = t.came ++ take count' chunk';
           taken = t.taken;
@@ -147,10 +155,39 @@ module _ {chunk₀ line₀ : List ℕ} {at₀ count₀ : ℕ} {chunk line : List
           clear = t.clear;
           long = t.long;
           text = t.text;
+          known = q;
           since = inr (not_here, (t.came, refl));
         }
 
 -- ---- the line's end
+
+-- what a call tells of its line: Q is known of the bytes that came, and U holds where none was read
+pub record LineTold (U : Type 0) (Q : List ℕ → Type 0) (i : Input) (chunk line : List ℕ) (r : Line) (chunk' line' : List ℕ) : Type 0 where
+  pub came : List ℕ
+  pub known : Q came
+  pub next : LineOf (left chunk i ++ came) line r chunk' line'
+  pub read : LineRead i chunk line r chunk' line'
+  pub waits : has_line chunk i ≡ true → U
+
+pub told_taken : {U : Type 0} {known known' : Option (List ℕ)} {i : Input} {chunk line : List ℕ} {r : Line} {chunk' line' : List ℕ}
+    → LineTold U (λ came. Consumes known known' came) i chunk line r chunk' line' → LineTaken known known' i chunk line r chunk' line'
+told_taken t = record { came = t.came; read = t.known; next = t.next }
+
+-- the known bytes that two reads bring
+pub consumed_on : (a b c : Option (List ℕ)) (xs ys : List ℕ) → Consumes a b xs → Consumes b c ys → Consumes a c (xs ++ ys)
+consumed_on None b c xs ys p q = tt
+consumed_on (Some x) None c xs ys p q = absurd p
+consumed_on (Some x) (Some y) None xs ys p q = absurd q
+consumed_on (Some x) (Some y) (Some z) xs ys p q = p ∙ ap (λ l. xs ++ l) q ∙ sym (append_assoc xs ys z)
+
+pub consumed_none : (a : Option (List ℕ)) → Consumes a a []
+consumed_none None = tt
+consumed_none (Some x) = refl
+
+-- a read that brought nothing
+pub consumed_end : (a b c : Option (List ℕ)) (xs chunk : List ℕ) (n : ℕ) → n ≡ 0 → Consumes a b xs → Consumes b c (take n chunk) → Consumes a c xs
+consumed_end a b c xs chunk n e p q =
+    subst (λ l. Consumes a c l) (append-nil xs) (consumed_on a b c xs [] p (subst (λ k. Consumes b c (take k chunk)) e q))
 
 -- no more bytes are read than the chunk has
 clamped : (c : ℕ) (l : List ℕ) → length l ≡ 65536 → take (min c 65536) l ≡ take c l
@@ -168,8 +205,8 @@ some_min m =
     ]) refl
 
 module _
-    (i : Input) {chunk₀ line₀ : List ℕ} {count₀ : ℕ} {chunk line : List ℕ} {at count n : ℕ}
-    (l : length chunk₀ ≡ 65536) (w : count₀ ≡ min i.count 65536) (t : Taking chunk₀ line₀ i.at count₀ chunk line at count n) where
+    (i : Input) {U : Type 0} {P : List ℕ → Type 0} {chunk₀ line₀ : List ℕ} {count₀ : ℕ} {chunk line : List ℕ} {at count n : ℕ}
+    (l : length chunk₀ ≡ 65536) (w : count₀ ≡ min i.count 65536) (t : Taking U P chunk₀ line₀ i.at count₀ chunk line at count n) where
   abbrev from : List ℕ
   from = drop i.at (take count₀ chunk₀)
 
@@ -185,13 +222,23 @@ module _
   abbrev Read : List ℕ → Line → List ℕ → Type 0
   Read s r chunk' = length s ≤ before 10 s → (earlier : List ℕ) × (t.came ≡ earlier ++ take r.input.count chunk')
 
-  line_read : {r : Line} {chunk' : List ℕ} → LineOf (from ++ t.came) line₀ r chunk' line → Here from r chunk' → Read from r chunk' → LineRead i chunk₀ line₀ r chunk' line
-  line_read {r} {chunk'} =
-      subst (λ s. LineOf (s ++ t.came) line₀ r chunk' line → Here s r chunk' → Read s r chunk' → LineRead i chunk₀ line₀ r chunk' line)
+  line_told : {V : Type 0} {Q : List ℕ → Type 0} {r : Line} {chunk' : List ℕ} → Q t.came → LineOf (from ++ t.came) line₀ r chunk' line → Here from r chunk'
+      → Read from r chunk' → (before 10 from < length from → V) → LineTold V Q i chunk₀ line₀ r chunk' line
+  unfolding has_line
+  line_told {V} {Q} {r} {chunk'} q =
+      subst
+      (λ s. LineOf (s ++ t.came) line₀ r chunk' line → Here s r chunk' → Read s r chunk' → (before 10 s < length s → V) → LineTold V Q i chunk₀ line₀ r chunk' line)
       left_from
-      (λ o h k. record { came = t.came; next = o; here = h; read = k })
+      (λ o h k u.
+      record {
+        came = t.came;
+        known = q;
+        next = o;
+        read = record { came = t.came; next = o; here = h; read = k };
+        waits = λ e. u (ltb-true (before 10 (left chunk₀ i)) (length (left chunk₀ i)) e);
+      })
 
-  pub line_found : {r : Line} → get_or chunk at 0 ≡ 10 → at < count → count ≤ length chunk → r ≡ line_to n true (input_to (at + 1) count) → LineRead i chunk₀ line₀ r chunk line
+  pub line_found : {r : Line} → get_or chunk at 0 ≡ 10 → at < count → count ≤ length chunk → r ≡ line_to n true (input_to (at + 1) count) → LineTold U P i chunk₀ line₀ r chunk line
   unfolding before stop_or line_to input_to left Since
   line_found is a c e =
       let tail = drop (suc at) (take count chunk) in
@@ -200,9 +247,10 @@ module _
       before_on t.taken (10 ∷ tail) t.clear ∙ omega arith in
       let o : suc (length t.taken) ≡ length t.taken + 1 = omega arith in
       subst
-      (λ r. LineRead i chunk₀ line₀ r chunk line)
+      (λ r. LineTold U P i chunk₀ line₀ r chunk line)
       (sym e)
-      (line_read
+      (line_told
+      t.known
       (record {
         fits = omega (arith, t.long);
         long = rw (all, b) t.long;
@@ -223,16 +271,19 @@ module _
       let q : from ≡ t.taken ++ 10 ∷ tail = sym (append-nil from) ∙ ap (λ x. from ++ x) (sym k.0) ∙ all in
       absurd (omega (arith, h, ap (λ x. before 10 x) q, ap (λ x. length x) q, b, length-append t.taken (10 ∷ tail))))
       (λ k. k.1)
-      t.since))
+      t.since)
+      (λ h. ⊎_elim (λ k. k.4) (λ k. absurd (k.0 h)) t.since))
 
-  pub line_last : {r : Line} (chunk' : List ℕ) → count ≤ at → r ≡ line_to n (ltb 0 n) (input_to 0 0) → LineRead i chunk₀ line₀ r chunk' line
+  pub line_last : {U' : Type 0} {Q : List ℕ → Type 0} {r : Line} (chunk' : List ℕ) → Q t.came → count ≤ at → r ≡ line_to n (ltb 0 n) (input_to 0 0)
+      → LineTold U' Q i chunk₀ line₀ r chunk' line
   unfolding line_to input_to left
-  line_last chunk' a e =
+  line_last {U'} {Q} chunk' q a e =
       let all = taken_all t a in
       subst
-      (λ r. LineRead i chunk₀ line₀ r chunk' line)
+      (λ r. LineTold U' Q i chunk₀ line₀ r chunk' line)
       (sym e)
-      (line_read
+      (line_told
+      q
       (record {
         fits = omega (arith, t.long);
         long = rw (all, t.clear) t.long;
@@ -241,7 +292,8 @@ module _
         rest = rw (all, t.clear, drop_of_length-le t.taken {i = suc (length t.taken)} (omega arith));
       })
       (λ h. absurd (not_here t a h))
-      (λ h. (t.came, sym (append-nil t.came))))
+      (λ h. (t.came, sym (append-nil t.came)))
+      (λ h. absurd (not_here t a h)))
 
 -- ---- a whole line that is left
 

@@ -1,5 +1,6 @@
 -- The next line of an input, by the bytes that were read before and those that come meanwhile.
-use Rattle.std.specs.Prelude.{ℕ, suc, ◌+◌, ◌≤◌, ◌<◌, min, ◌≡◌, Bool, List, [], ◌++◌, ltb, length, take, drop}
+use Rattle.std.specs.Prelude.{ℕ, suc, ◌+◌, ◌≤◌, ◌<◌, min, ◌≡◌, Bool, List, [], ◌++◌, ltb, length, take, drop, Option}
+use Rattle.std.specs.Io.KnownBytes.{Consumes}
 use Rattle.decimal.specs.Split.{before}
 use Rattle.line_input.specs.declared.Input.{Input}
 use Rattle.line_input.specs.declared.Line.{Line}
@@ -37,3 +38,9 @@ pub record LineRead (i : Input) (chunk line : List ℕ) (r : Line) (chunk' line'
       before 10 (left chunk i) < length (left chunk i)
       → (came ≡ []) × (chunk' ≡ chunk) × (r.input ≡ input_to (i.at + suc (before 10 (left chunk i))) (min i.count 65536))
   pub read : length (left chunk i) ≤ before 10 (left chunk i) → (earlier : List ℕ) × (came ≡ earlier ++ take r.input.count chunk')
+
+-- where it is known which bytes a reader gives, those that came are its next ones
+pub record LineTaken (known known' : Option (List ℕ)) (i : Input) (chunk line : List ℕ) (r : Line) (chunk' line' : List ℕ) : Type 0 where
+  pub came : List ℕ
+  pub read : Consumes known known' came
+  pub next : LineOf (left chunk i ++ came) line r chunk' line'

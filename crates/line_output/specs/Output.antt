@@ -1,5 +1,6 @@
--- What is gathered of an output. No contract can say what is written.
-use Rattle.std.specs.Prelude.{ℕ, ◌+◌, ◌≤◌, ◌<◌, ◌≡◌, Bool, true, false, List, length}
+-- What is gathered of an output, and what is written where a writer's bytes are known.
+use Rattle.std.specs.Prelude.{ℕ, ◌+◌, ◌≤◌, ◌<◌, ◌≡◌, Bool, true, false, List, ◌++◌, length, take, ⊤, Option, None, Some}
+use Rattle.std.specs.Io.KnownBytes.{Appends}
 use Rattle.decimal.specs.Print.{put}
 use Rattle.line_output.specs.declared.Output.{Output}
 
@@ -23,3 +24,18 @@ pub record Flushed (o r : Output) : Type 0 where
 abbrev pub Before : Bool → Output → Output → Type 0
 Before true o r = r ≡ o
 Before false o r = Flushed o r
+
+-- the bytes that are gathered and not written
+unfoldable pub pending : List ℕ → Output → List ℕ
+pending room o = take o.length room
+
+-- what a writer held, what was gathered and a text are what it holds then and what is gathered then: no byte is lost, doubled or moved
+abbrev pub Passes : Option (List ℕ) → Option (List ℕ) → List ℕ → List ℕ → List ℕ → Type 0
+Passes None known' before text after = ⊤
+Passes (Some xs) None before text after = ⊥
+Passes (Some xs) (Some ys) before text after = ys ++ after ≡ xs ++ (before ++ text)
+
+-- where a write failed, its writer has a front part of it
+pub record Written (known known' : Option (List ℕ)) (before text : List ℕ) (r : Output) (after : List ℕ) : Type 0 where
+  pub whole : r.broken ≡ false → Passes known known' before text after
+  pub front : (n : ℕ) × Appends known known' (take n (before ++ text))

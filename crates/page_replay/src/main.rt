@@ -4,6 +4,8 @@
 //
 // An answer to `P` is `page`, the entries read, and each word of the list. The list is the same through the whole run, 260
 // words that start as 9, so that words which a page leaves show. Any other line is one of the call list.
+#![tactic(auto)]
+
 ghost use Rattle.std.specs.Prelude.{◌≤◌, length};
 
 use calls::run::run_line;
@@ -11,9 +13,9 @@ use decimal::{put_bytes, put_unsigned};
 use fields::{field_count, long_at, only_byte};
 use group_view::view::clear;
 use history::order::GroupOrder;
-use libc::STDOUT_FILENO;
 use line_input::{begin, next_line};
 use page::fill::Paged;
+use std::io;
 
 // No good line has more than 129 bytes, so one that is cut to fit is bad, as it was.
 type Line = [u8; 256];
@@ -52,10 +54,11 @@ fn put_words(out: &mut Shown, at: usize, words: &[u64]) -> usize {
 }
 
 // Prints the first bytes of an answer, where it has so many.
-fn print(text: &[u8], length: usize) {
+fn print(rt: &impl Print, text: &[u8], length: usize) -> io::Result<()> {
     if length <= text.len() {
-        io::write_all(STDOUT_FILENO, &text[0..length]);
+        return rt.write_all(&text[0..length]);
     }
+    Ok(())
 }
 
 fn fill(store: &[u64; 6984], words: &mut [u64], out: &mut Shown) -> usize {
@@ -78,40 +81,51 @@ fn fill_first(store: &[u64; 6984], list: &mut [u64], n: usize, out: &mut Shown) 
     fill(store, &mut list[..n], out)
 }
 
-fn print_page(said: &Shown, length: usize) {
-    print(said, length);
+fn print_page(rt: &impl Print, said: &Shown, length: usize) -> io::Result<()> {
+    print(rt, said, length)
 }
 
-fn print_call(said: &Out, length: usize) {
-    print(said, length);
+fn print_call(rt: &impl Print, said: &Out, length: usize) -> io::Result<()> {
+    print(rt, said, length)
 }
 
 fn end_line(said: &mut Out, at: usize) -> usize {
     put_bytes(said, at, b"\n")
 }
 
-fn answer_page(store: &[u64; 6984], list: &mut List, words: u64) {
+fn answer_page(
+    rt: &impl Print,
+    store: &[u64; 6984],
+    list: &mut List,
+    words: u64,
+) -> io::Result<()> {
     let n = to_260(words);
     let mut said = [0u8; 6144];
     let length = fill_first(store, list, n, &mut said);
-    print_page(&said, length);
+    print_page(rt, &said, length)
 }
 
-fn answer_call(store: &mut [u64; 6984], view: &mut [u64; 1307], line: &[u8]) {
+fn answer_call(
+    rt: &impl Print,
+    store: &mut [u64; 6984],
+    view: &mut [u64; 1307],
+    line: &[u8],
+) -> io::Result<()> {
     let mut said = [0u8; 4096];
     let n = run_line(store, view, line, &mut said);
     let end = end_line(&mut said, n);
-    print_call(&said, end);
+    print_call(rt, &said, end)
 }
 
 // Prints the answer to the first bytes of a line.
 fn answer(
+    rt: &impl Print,
     store: &mut [u64; 6984],
     view: &mut [u64; 1307],
     list: &mut List,
     line: &Line,
     length: usize,
-)
+) -> io::Result<()>
     requires { length ≤ 256 }
 {
     let line: &[u8] = line;
@@ -119,31 +133,30 @@ fn answer(
     if only_byte(line, 0) == b'P' {
         let words = long_at(line, 1);
         if words.ok & (field_count(line) == 2) {
-            answer_page(store, list, words.value);
-            return;
+            return answer_page(rt, store, list, words.value);
         }
     }
-    answer_call(store, view, line);
+    answer_call(rt, store, view, line)
 }
 
-// So that the loop is seen to end, it counts down from more lines than any run has.
-fn main() {
+// So that the loop is seen to end, it counts more lines than any run has.
+fn main(rt: HostRuntime) -> io::Result<()> {
     let fresh = GroupOrder::new(GroupOrder::GROUP_TIMEOUT);
     let mut store = fresh.words;
     let mut view = [0u64; 1307];
     clear(&mut view);
     let mut list = [9u64; 260];
-    let mut chunk = io::large_buffer();
+    let mut stdin = rt.stdin();
+    let mut chunk = [0u8; 65536];
     let mut line = [0u8; 256];
     let mut input = begin();
-    let mut turns = u64::MAX;
-    while 0 < turns {
-        turns -= 1;
-        let next = next_line(&mut chunk, input, &mut line);
+    for _ in 0..u64::MAX {
+        let next = next_line(&mut stdin, &mut chunk, input, &mut line);
         if !next.more {
-            return;
+            break;
         }
-        answer(&mut store, &mut view, &mut list, &line, next.length);
+        answer(&rt, &mut store, &mut view, &mut list, &line, next.length)?;
         input = next.input;
     }
+    Ok(())
 }

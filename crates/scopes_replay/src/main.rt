@@ -16,6 +16,8 @@
 // Numbers are decimal, bytes are lower-case hex, `-` for none. Any other line is `bad`. Of a line longer than 256 bytes the first
 // 256 are run.
 // Before the first line there is a new scope, and an access scope at 0 0.
+#![tactic(auto)]
+
 use coherent_set::{
     AccessEnded, CoherentBegun, CoherentEnded, CoherentScope, CoherentSetMarker, CurrentMarker,
     Decoded, GroupAccessScope,
@@ -23,8 +25,8 @@ use coherent_set::{
 use decimal::{put_bytes, put_signed, put_unsigned};
 use fields::{field_count, long_at, number_at, only_byte, word_at};
 use hex_digits::{put_hex, read_hex};
-use libc::STDOUT_FILENO;
 use line_input::next_line;
+use std::io;
 
 // Room for every answer.
 type Out = [u8; 32];
@@ -224,42 +226,43 @@ fn run_line(scopes: Scopes, line: &[u8], out: &mut Out) -> Answer {
     }
 }
 
-fn print(out: &Out, length: usize) {
+fn print(rt: &impl Print, out: &Out, length: usize) -> io::Result<()> {
     let text: &[u8] = out;
     if length <= text.len() {
-        io::write_all(STDOUT_FILENO, &text[0..length]);
+        return rt.write_all(&text[0..length]);
     }
+    Ok(())
 }
 
 // Prints the answer to the first bytes of a line, and answers the scopes after it.
-fn answer_line(scopes: Scopes, line: &Line, length: usize) -> Scopes {
+fn answer_line(rt: &impl Print, scopes: Scopes, line: &Line, length: usize) -> io::Result<Scopes> {
     let line: &[u8] = line;
     if line.len() < length {
-        return scopes; // no line is longer
+        return Ok(scopes); // no line is longer
     }
     let mut out = [0u8; 32];
     let said = run_line(scopes, &line[0..length], &mut out);
-    print(&out, said.length);
-    said.scopes
+    print(rt, &out, said.length)?;
+    Ok(said.scopes)
 }
 
-// So that the loop is seen to end, it counts down from more lines than any run has.
-fn main() {
+// So that the loop is seen to end, it counts more lines than any run has.
+fn main(rt: HostRuntime) -> io::Result<()> {
     let mut scopes = Scopes {
         scope: CoherentScope::new(),
         access: GroupAccessScope::new(),
     };
-    let mut chunk = io::large_buffer();
+    let mut stdin = rt.stdin();
+    let mut chunk = [0u8; 65536];
     let mut line = [0u8; 256];
     let mut input = line_input::begin();
-    let mut turns = u64::MAX;
-    while 0 < turns {
-        turns -= 1;
-        let next = next_line(&mut chunk, input, &mut line);
+    for _ in 0..u64::MAX {
+        let next = next_line(&mut stdin, &mut chunk, input, &mut line);
         if !next.more {
-            return;
+            break;
         }
-        scopes = answer_line(scopes, &line, next.length);
+        scopes = answer_line(&rt, scopes, &line, next.length)?;
         input = next.input;
     }
+    Ok(())
 }

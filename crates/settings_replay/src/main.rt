@@ -8,17 +8,19 @@
 //
 // Numbers are decimal, bytes are lower-case hex, `-` for none and for no lifespan. `P` lends a list of room places, at most 40, each
 // 170 before; `S` takes at most 100 bytes. Any other line is `bad`. Before the first line nothing is stored.
+#![tactic(auto)]
+
 ghost use Rattle.std.specs.Prelude.{◌≤◌};
 
 use decimal::{put_bytes, put_unsigned};
 use fields::{field_count, long_at, only_byte};
 use filter_hold::tbf::Separation;
 use hex_digits::{put_hex, read_hex};
-use libc::STDOUT_FILENO;
 use line_input::{begin, next_line};
 use settings::durations::{Durations, DurationsAnswer, Validity};
 use settings::setting::{Lifespan, PackAnswer, Setting};
 use settings::setting_store::{ReadAnswer, SaveAnswer, SettingStore};
+use std::io;
 
 // Room for every answer.
 type Out = [u8; 160];
@@ -237,38 +239,44 @@ fn run_line(store: SettingStore, line: &[u8], out: &mut Out) -> Answer {
     Answer { store, length }
 }
 
-fn print(out: &Out, length: usize) {
+fn print(rt: &impl Print, out: &Out, length: usize) -> io::Result<()> {
     let text: &[u8] = out;
     if length <= text.len() {
-        io::write_all(STDOUT_FILENO, &text[0..length]);
+        return rt.write_all(&text[0..length]);
     }
+    Ok(())
 }
 
 // Prints the answer to the first bytes of a line.
-fn answer_line(store: SettingStore, line: &Line, length: usize) -> SettingStore
+fn answer_line(
+    rt: &impl Print,
+    store: SettingStore,
+    line: &Line,
+    length: usize,
+) -> io::Result<SettingStore>
     requires { length ≤ 256 }
 {
     let line: &[u8] = line;
     let mut out = [0u8; 160];
     let said = run_line(store, &line[0..length], &mut out);
-    print(&out, said.length);
-    said.store
+    print(rt, &out, said.length)?;
+    Ok(said.store)
 }
 
-// So that the loop is seen to end, it counts down from more lines than any run has.
-fn main() {
+// So that the loop is seen to end, it counts more lines than any run has.
+fn main(rt: HostRuntime) -> io::Result<()> {
     let mut store = SettingStore::new();
-    let mut chunk = io::large_buffer();
+    let mut stdin = rt.stdin();
+    let mut chunk = [0u8; 65536];
     let mut line = [0u8; 256];
     let mut input = begin();
-    let mut turns = u64::MAX;
-    while 0 < turns {
-        turns -= 1;
-        let next = next_line(&mut chunk, input, &mut line);
+    for _ in 0..u64::MAX {
+        let next = next_line(&mut stdin, &mut chunk, input, &mut line);
         if !next.more {
-            return;
+            break;
         }
-        store = answer_line(store, &line, next.length);
+        store = answer_line(&rt, store, &line, next.length)?;
         input = next.input;
     }
+    Ok(())
 }

@@ -8,13 +8,15 @@
 //   D sec nanosec sepsec sepnano                a due time        sec and nanosec, refused 10
 //
 // Numbers are decimal. Any other line is `bad`. Before the first line nothing is held.
+#![tactic(auto)]
+
 ghost use Rattle.std.specs.Prelude.{◌≤◌};
 
 use decimal::{put_bytes, put_signed, put_unsigned};
 use fields::{field_count, long_at, number_at, only_byte, word_at};
 use filter_hold::tbf::{DueAnswer, Held, HoldAnswer, Separation, TbfHold, Time};
-use libc::STDOUT_FILENO;
 use line_input::{begin, next_line};
+use std::io;
 
 // Room for every answer: 32 samples of at most 55 bytes.
 type Out = [u8; 2048];
@@ -261,38 +263,39 @@ fn run_line(hold: TbfHold, line: &[u8], out: &mut Out) -> Answer {
     }
 }
 
-fn print(out: &Out, length: usize) {
+fn print(rt: &impl Print, out: &Out, length: usize) -> io::Result<()> {
     let text: &[u8] = out;
     if length <= text.len() {
-        io::write_all(STDOUT_FILENO, &text[0..length]);
+        return rt.write_all(&text[0..length]);
     }
+    Ok(())
 }
 
 // Prints the answer to the first bytes of a line.
-fn answer_line(hold: TbfHold, line: &Line, length: usize) -> TbfHold
+fn answer_line(rt: &impl Print, hold: TbfHold, line: &Line, length: usize) -> io::Result<TbfHold>
     requires { length ≤ 256 }
 {
     let line: &[u8] = line;
     let mut out = [0u8; 2048];
     let said = run_line(hold, &line[0..length], &mut out);
-    print(&out, said.length);
-    said.hold
+    print(rt, &out, said.length)?;
+    Ok(said.hold)
 }
 
-// So that the loop is seen to end, it counts down from more lines than any run has.
-fn main() {
+// So that the loop is seen to end, it counts more lines than any run has.
+fn main(rt: HostRuntime) -> io::Result<()> {
     let mut hold = TbfHold::new();
-    let mut chunk = io::large_buffer();
+    let mut stdin = rt.stdin();
+    let mut chunk = [0u8; 65536];
     let mut line = [0u8; 256];
     let mut input = begin();
-    let mut turns = u64::MAX;
-    while 0 < turns {
-        turns -= 1;
-        let next = next_line(&mut chunk, input, &mut line);
+    for _ in 0..u64::MAX {
+        let next = next_line(&mut stdin, &mut chunk, input, &mut line);
         if !next.more {
-            return;
+            break;
         }
-        hold = answer_line(hold, &line, next.length);
+        hold = answer_line(&rt, hold, &line, next.length)?;
         input = next.input;
     }
+    Ok(())
 }

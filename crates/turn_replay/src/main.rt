@@ -15,6 +15,8 @@
 // them. Progress rows go to the next turn, in order, and are gone after it and after `T`; `V` and `D` rows stay until `T`.
 // Places are the length of the lent list. GUID k, spread, is the sixteen bytes k xor 17 i; after `T` GUIDs are not spread. Any other line is `bad`, and so is a row after 64 that wait for a turn. Before the
 // first line nothing is stored, and the timeout is one second.
+#![tactic(auto)]
+
 mod key;
 mod rows;
 mod say;
@@ -33,6 +35,7 @@ use history::order::GroupOrder;
 use line_input::{begin, next_line};
 use offers::call::{Accepted, Gap, Heartbeat};
 use presentation::ordering::GroupOrdering;
+use std::io;
 use turn::items::{GroupItem, GroupMark, Grouping, Ordered};
 
 // No good line has more than 129 bytes, so one that is cut to fit is bad, as it was.
@@ -202,33 +205,39 @@ fn run_line(store: &mut Store, rows: Rows, line: &[u8], out: &mut Out) -> Answer
 }
 
 // Prints the answer to the first bytes of a line, and answers the rows after it.
-fn answer_line(store: &mut Store, rows: Rows, line: &Line, length: usize) -> Rows {
+fn answer_line(
+    rt: &impl Print,
+    store: &mut Store,
+    rows: Rows,
+    line: &Line,
+    length: usize,
+) -> io::Result<Rows> {
     let line: &[u8] = line;
     if line.len() < length {
-        return rows; // no line is longer
+        return Ok(rows); // no line is longer
     }
     let mut out = [0u8; 4096];
     let said = run_line(store, rows, &line[0..length], &mut out);
-    print(&out, said.length);
-    said.rows
+    print(rt, &out, said.length)?;
+    Ok(said.rows)
 }
 
-// So that the loop is seen to end, it counts down from more lines than any run has.
-fn main() {
+// So that the loop is seen to end, it counts more lines than any run has.
+fn main(rt: HostRuntime) -> io::Result<()> {
     let start = GroupOrdering::new();
     let mut store = start.words;
     let mut rows = no_rows();
-    let mut chunk = io::large_buffer();
+    let mut stdin = rt.stdin();
+    let mut chunk = [0u8; 65536];
     let mut line = [0u8; 256];
     let mut input = begin();
-    let mut lines = u64::MAX;
-    while 0 < lines {
-        lines -= 1;
-        let next = next_line(&mut chunk, input, &mut line);
+    for _ in 0..u64::MAX {
+        let next = next_line(&mut stdin, &mut chunk, input, &mut line);
         if !next.more {
-            return;
+            break;
         }
-        rows = answer_line(&mut store, rows, &line, next.length);
+        rows = answer_line(&rt, &mut store, rows, &line, next.length)?;
         input = next.input;
     }
+    Ok(())
 }

@@ -7,7 +7,7 @@ use group_view::view::{DigestRow, Pair};
 use turn::turn_steps::{Beat, Heard, Progress};
 
 // One counted row and one digest row more than a view takes, so that there can be too many.
-#[derive(Drop)]
+#[derive(Clone, Copy)]
 pub(crate) struct Rows {
     pub list: [Progress; 64],
     pub count: usize,

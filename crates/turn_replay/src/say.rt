@@ -1,8 +1,8 @@
 // What is printed. Text goes into a lent list, and the answer is where the next byte goes.
 use decimal::{put_bytes, put_unsigned};
-use libc::STDOUT_FILENO;
 use offers::call::{Accepted, Offered};
 use readings::readings::ReleaseCounts;
+use std::io;
 
 // Room for every answer: 256 samples of at most 13 bytes, and eight counts.
 pub(crate) type Out = [u8; 4096];
@@ -75,9 +75,10 @@ pub(crate) fn put_samples(out: &mut Out, at: usize, list: &[u64], count: usize) 
     next
 }
 
-pub(crate) fn print(out: &Out, length: usize) {
+pub(crate) fn print(rt: &impl Print, out: &Out, length: usize) -> io::Result<()> {
     let text: &[u8] = out;
     if length <= text.len() {
-        io::write_all(STDOUT_FILENO, &text[0..length]);
+        return rt.write_all(&text[0..length]);
     }
+    Ok(())
 }
