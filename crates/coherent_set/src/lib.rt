@@ -50,7 +50,8 @@ impl CoherentSetMarker {
     pub fn from_wire_bytes(bytes: &[u8]) -> Decoded
         ensures { decoded_as result ≡ decode bytes.now }
     {
-        if bytes.len() != 8 {
+        let other = bytes.len() != 8;
+        if other {
             return Decoded::NotEightBytes;
         }
         let sn = signed_of(number_of(bytes));
@@ -158,7 +159,8 @@ impl CoherentScope {
         let active = self.active;
         let sn = self.set_first_sn;
         if active {
-            if sn != -9223372036854775808 {
+            let set = sn != -9223372036854775808;
+            if set {
                 return CurrentMarker::Marker(CoherentSetMarker { set_first_sn: sn });
             }
         }

@@ -244,7 +244,8 @@ pub fn spoil(view: &mut [u64; 1307])
 pub fn is_malformed(view: &[u64; 1307]) -> bool
     ensures { result ≡ (more view.now || malformed (view_of view.now)) }
 {
-    if view[2] != 0 {
+    let over = view[2] != 0;
+    if over {
         return true;
     }
     if reader_above_seven(view) {

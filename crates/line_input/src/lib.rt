@@ -96,10 +96,12 @@ pub fn next_line<R: Read>(
         if at < count {
             let b = chunk[at];
             at += 1;
-            if b == b'\n' {
+            let ends = b == b'\n';
+            if ends {
                 return line_to(length, true, at, count);
             }
-            if length < 256 {
+            let fits = length < 256;
+            if fits {
                 line[length] = b;
                 length += 1;
             }

@@ -85,7 +85,8 @@ pub fn gather<W: Write, E: Eprint>(
     if empty.broken {
         return empty;
     }
-    if 65536 < text.len() {
+    let long = 65536 < text.len();
+    if long {
         return to(0, !write_out(writer, errors, text));
     }
     let length = put_bytes(room, 0, text);
@@ -106,7 +107,8 @@ pub fn before_line<W: Write, E: Eprint>(
     ensures waits { has_line chunk.now input ≡ true → writer.new ≡ writer.old }
     ensures stopped { output.broken ≡ true → writer.new ≡ writer.old }
 {
-    if has_line(chunk, input) {
+    let left = has_line(chunk, input);
+    if left {
         return output;
     }
     flush(writer, errors, room, output)

@@ -50,7 +50,8 @@ impl SettingStore {
     pub fn save(self, bytes: &[u8]) -> Saving
         ensures { saving_as result ≡ save bytes.now (store_as self) }
     {
-        if bytes.len() == 0 {
+        let none = bytes.len() == 0;
+        if none {
             return Saving {
                 answer: SaveAnswer::BadLength,
                 store: self,
@@ -63,7 +64,8 @@ impl SettingStore {
                 store: self,
             };
         }
-        if 7 < version {
+        let above = 7 < version;
+        if above {
             return Saving {
                 answer: SaveAnswer::BadVersion,
                 store: self,

@@ -8,19 +8,19 @@ use Rattle.line_input.proofs.next_line.Goals as goal
 pub loop-at-init : goal.loop-at-init
 loop-at-init g c = (search rules, c.whole.ensures.0, start _ _ _ _ _ _ refl (consumed_none (g.R.Read.remaining c.args.reader.now)))
 
-pub returns-then-b-eq10 : goal.returns-then-b-eq10
-returns-then-b-eq10 g c = let t = c.loop-at.invariant in
-    let told = line_found c.args.input c.whole.ensures.0 c.within-count.ensures t.2 c.if-b-eq10.true c.if-at-count.true (omega (arith, t.0, t.1)) c.line_to.ensures in
+pub returns-then-ends : goal.returns-then-ends
+returns-then-ends g c = let t = c.loop-at.invariant in
+    let told = line_found c.args.input c.whole.ensures.0 c.within-count.ensures t.2 c.if-ends.true c.if-at-count.true (omega (arith, t.0, t.1)) c.line_to.ensures in
     record { read = told.read; taken = told_taken told; waits = told.waits }
 
-pub loop-at-preserved-then-length-lt256 : goal.loop-at-preserved-then-length-lt256
-loop-at-preserved-then-length-lt256 g c = let t = c.loop-at.invariant in
+pub loop-at-preserved-then-fits : goal.loop-at-preserved-then-fits
+loop-at-preserved-then-fits g c = let t = c.loop-at.invariant in
     let l = c.whole.ensures.1 in
-    (t.0, t.1, byte_put t.2 c.if-b-eq10.false c.if-at-count.true (omega (arith, t.0, t.1)) (omega arith) (omega (arith, l)))
+    (t.0, t.1, byte_put t.2 c.if-ends.false c.if-at-count.true (omega (arith, t.0, t.1)) (omega arith) (omega (arith, l)))
 
-pub loop-at-preserved-else-length-lt256 : goal.loop-at-preserved-else-length-lt256
-loop-at-preserved-else-length-lt256 g c = let t = c.loop-at.invariant in
-    (t.0, t.1, byte_cut t.2 c.if-b-eq10.false c.if-at-count.true (omega (arith, t.0, t.1)) (omega arith))
+pub loop-at-preserved-else-fits : goal.loop-at-preserved-else-fits
+loop-at-preserved-else-fits g c = let t = c.loop-at.invariant in
+    (t.0, t.1, byte_cut t.2 c.if-ends.false c.if-at-count.true (omega (arith, t.0, t.1)) (omega arith))
 
 pub returns-then-reads-eq0 : goal.returns-then-reads-eq0
 returns-then-reads-eq0 g c = let t = c.loop-at.invariant in

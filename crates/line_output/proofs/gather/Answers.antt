@@ -39,19 +39,19 @@ returns-then-empty-clause-written g c = let W = g.W.Write.contents in
     wrote_front k m before c.args.text.now e.result (pending room e.result) c.if-empty.true
     (flushed_front k m before e.result (pending room e.result) e.ensures.written)
 
-pub returns-then-text-gt65536-clause-gathered : goal.returns-then-text-gt65536-clause-gathered
+pub returns-then-long-clause-gathered : goal.returns-then-long-clause-gathered
 unfolding output_to
-returns-then-text-gt65536-clause-gathered g c = written _ _ _ c.if-output.false (sym c.has_place.ensures ∙ c.if-has_place.false) c.if-text-gt65536.true (ap (λ (x : Output). x.length) c.to-then-text-gt65536.ensures)
+returns-then-long-clause-gathered g c = written _ _ _ c.if-output.false (sym c.has_place.ensures ∙ c.if-has_place.false) c.if-long.true (ap (λ (x : Output). x.length) c.to-then-long.ensures)
 
-pub returns-then-text-gt65536-clause-written : goal.returns-then-text-gt65536-clause-written
-returns-then-text-gt65536-clause-written g c = let W = g.W.Write.contents in
+pub returns-then-long-clause-written : goal.returns-then-long-clause-written
+returns-then-long-clause-written g c = let W = g.W.Write.contents in
     let room = c.args.room.now in
     let e = c.flush-empty in
     let k = W c.args.writer.now in
     let m = W e.new.writer in
     let before = pending room c.args.output in
     let out = c.write_out in
-    let to = c.to-then-text-gt65536 in
+    let to = c.to-then-long in
     wrote_long k (W out.new.writer) before room to.result out.result to.ensures m c.args.text.now
     (flushed_all k m before e.result (pending room e.result) c.if-empty.false (none_pending room e.result (e.ensures.flushed.none c.if-output.false)) e.ensures.written)
     out.ensures.all out.ensures.front

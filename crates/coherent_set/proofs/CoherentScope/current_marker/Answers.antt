@@ -4,17 +4,17 @@ use Rattle.coherent_set.specs.Scope.{marker_of, marker_as, least}
 use Rattle.laws.proofs.Whole.{other_eq_z}
 use Rattle.coherent_set.proofs.CoherentScope.current_marker.Goals as goal
 
-pub returns-then-sn : goal.returns-then-sn
+pub returns-then-set : goal.returns-then-set
 unfolding marker_of marker_as
-returns-then-sn c = let z : ℤ = c.args.self.set_first_sn in
+returns-then-set c = let z : ℤ = c.args.self.set_first_sn in
     let s : SFits w64 z = search rules in
-    simp (c.if-active.true, to_z-of_z s, other_eq_z z least (λ e. c.if-sn.true (ap (λ y. of_z w64 y) e)))
+    simp (c.if-active.true, to_z-of_z s, other_eq_z z least (λ e. c.if-set.true (ap (λ y. of_z w64 y) e)))
 
-pub returns-else-sn : goal.returns-else-sn
+pub returns-else-set : goal.returns-else-set
 unfolding marker_of marker_as
-returns-else-sn c = let z : ℤ = c.args.self.set_first_sn in
+returns-else-set c = let z : ℤ = c.args.self.set_first_sn in
     let s : SFits w64 z = search rules in
-    let e : z ≡ least = sym (to_z-of_z s) ∙ ap (λ n. to_z w64 n) c.if-sn.false in
+    let e : z ≡ least = sym (to_z-of_z s) ∙ ap (λ n. to_z w64 n) c.if-set.false in
     simp (c.if-active.true, e)
 
 pub returns-else-active : goal.returns-else-active

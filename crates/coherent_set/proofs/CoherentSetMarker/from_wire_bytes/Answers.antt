@@ -5,9 +5,9 @@ use Rattle.coherent_set.specs.Marker.{unwire, decode, decoded_as}
 use Rattle.coherent_set.proofs.Marker.{unwire_bits}
 use Rattle.coherent_set.proofs.CoherentSetMarker.from_wire_bytes.Goals as goal
 
-pub returns-then-bytes-ne8 : goal.returns-then-bytes-ne8
+pub returns-then-other : goal.returns-then-other
 unfolding decode decoded_as
-returns-then-bytes-ne8 c = simp (ne_eqb _ _ c.if-bytes-ne8.true)
+returns-then-other c = simp (ne_eqb _ _ c.if-other.true)
 
 pub returns : goal.returns
 unfolding decode decoded_as
@@ -16,6 +16,6 @@ returns c = let bs : List ℕ = c.args.bytes.now in
     let e : c.signed_of-sn.result ≡ unwire bs =
     c.signed_of-sn.ensures
     ∙ ap (λ n. to_z w64 n) c.number_of.ensures
-    ∙ sym (unwire_bits bs c.if-bytes-ne8.false (λ i. (c.type_inv.bytes i).fits))
+    ∙ sym (unwire_bits bs c.if-other.false (λ i. (c.type_inv.bytes i).fits))
     in
-    ap answered (to_z-of_z s ∙ e) ∙ simp (eq-eqb _ _ c.if-bytes-ne8.false)
+    ap answered (to_z-of_z s ∙ e) ∙ simp (eq-eqb _ _ c.if-other.false)

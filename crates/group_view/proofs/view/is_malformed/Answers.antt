@@ -5,16 +5,16 @@ use Rattle.group_view.specs.View.{more}
 use Rattle.group_view.proofs.Views.{malformed_rows}
 use Rattle.group_view.proofs.view.is_malformed.Goals as goal
 
-pub returns-then-view-ne0 : goal.returns-then-view-ne0
+pub returns-then-over : goal.returns-then-over
 unfolding more
-returns-then-view-ne0 c = rw (ne_eqb (get_or c.args.view.now 2 0) 0 c.if-view-ne0.true)
+returns-then-over c = rw (ne_eqb (get_or c.args.view.now 2 0) 0 c.if-over.true)
 
 pub returns-then-reader_above_seven : goal.returns-then-reader_above_seven
 unfolding more
 returns-then-reader_above_seven c = let v = c.args.view.now in
-    rw (eq-eqb (get_or v 2 0) 0 c.if-view-ne0.false, malformed_rows v, ← c.reader_above_seven.ensures, c.if-reader_above_seven.true)
+    rw (eq-eqb (get_or v 2 0) 0 c.if-over.false, malformed_rows v, ← c.reader_above_seven.ensures, c.if-reader_above_seven.true)
 
 pub returns : goal.returns
 unfolding more
 returns c = let v = c.args.view.now in
-    rw (eq-eqb (get_or v 2 0) 0 c.if-view-ne0.false, malformed_rows v, ← c.reader_above_seven.ensures, c.if-reader_above_seven.false, c.unlike_digests.ensures)
+    rw (eq-eqb (get_or v 2 0) 0 c.if-over.false, malformed_rows v, ← c.reader_above_seven.ensures, c.if-reader_above_seven.false, c.unlike_digests.ensures)

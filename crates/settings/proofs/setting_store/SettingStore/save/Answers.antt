@@ -9,20 +9,20 @@ use Rattle.settings.specs.Store.{store_as, saved, save, save_answer_as, saving_a
 use Rattle.settings.specs.Setting.{version_in, known}
 use Rattle.settings.proofs.setting_store.SettingStore.save.Goals as goal
 
-pub returns-then-bytes-eq0 : goal.returns-then-bytes-eq0
+pub returns-then-none : goal.returns-then-none
 unfolding save saving_as save_answer_as
-returns-then-bytes-eq0 c = rw (eq-eqb (length c.args.bytes.now) 0 (omega (arith, c.if-bytes-eq0.true)))
+returns-then-none c = rw (eq-eqb (length c.args.bytes.now) 0 (omega (arith, c.if-none.true)))
 
 pub returns-then-version-lt1 : goal.returns-then-version-lt1
 unfolding save saving_as save_answer_as known version_in
 returns-then-version-lt1 c = let a = c.args in
-    rw (ne_eqb (length a.bytes.now) 0 c.if-bytes-eq0.false, lt-leb 1 (version_in a.bytes.now) (omega (arith, c.if-version-lt1.true)))
+    rw (ne_eqb (length a.bytes.now) 0 c.if-none.false, lt-leb 1 (version_in a.bytes.now) (omega (arith, c.if-version-lt1.true)))
 
-pub returns-then-version-gt7 : goal.returns-then-version-gt7
+pub returns-then-above : goal.returns-then-above
 unfolding save saving_as save_answer_as known version_in
-returns-then-version-gt7 c = let a = c.args in
+returns-then-above c = let a = c.args in
     let v = version_in a.bytes.now in
-    rw (ne_eqb (length a.bytes.now) 0 c.if-bytes-eq0.false, le-leb 1 v (omega (arith, c.if-version-lt1.false)), lt-leb v 7 (omega (arith, c.if-version-gt7.true)))
+    rw (ne_eqb (length a.bytes.now) 0 c.if-none.false, le-leb 1 v (omega (arith, c.if-version-lt1.false)), lt-leb v 7 (omega (arith, c.if-above.true)))
 
 pub returns-then-not-good_length : goal.returns-then-not-good_length
 unfolding save saving_as save_answer_as known version_in
@@ -30,9 +30,9 @@ returns-then-not-good_length c = let a = c.args in
     let v = version_in a.bytes.now in
     let g = c.good_length in
     rw (
-      ne_eqb (length a.bytes.now) 0 c.if-bytes-eq0.false,
+      ne_eqb (length a.bytes.now) 0 c.if-none.false,
       le-leb 1 v (omega (arith, c.if-version-lt1.false)),
-      le-leb v 7 (omega (arith, c.if-version-gt7.false)),
+      le-leb v 7 (omega (arith, c.if-above.false)),
       ← g.ensures,
       c.if-not-good_length.true,
     )
@@ -46,9 +46,9 @@ returns c = let a = c.args in
     let v = version_in a.bytes.now in
     let g = c.good_length in
     rw (
-      ne_eqb (length a.bytes.now) 0 c.if-bytes-eq0.false,
+      ne_eqb (length a.bytes.now) 0 c.if-none.false,
       le-leb 1 v (omega (arith, c.if-version-lt1.false)),
-      le-leb v 7 (omega (arith, c.if-version-gt7.false)),
+      le-leb v 7 (omega (arith, c.if-above.false)),
       ← g.ensures,
       c.if-not-good_length.false,
     )
