@@ -116,7 +116,8 @@ impl CoherentHold {
         ensures { result ≡ length (hold_as self) }
     {
         let n = self.len;
-        if n < 64 {
+        let fits = n < 64;
+        if fits {
             return n;
         }
         64

@@ -63,7 +63,8 @@ impl CoherentSetMarker {
 pub fn bits_of(x: i64) -> u64
     ensures { result ≡ of_z w64 x }
 {
-    if x < 0 {
+    let negative = x < 0;
+    if negative {
         return !((!x) as u64);
     }
     x as u64
@@ -254,7 +255,8 @@ impl GroupAccessScope {
         let prev = self.open_count;
         let generation = self.snapshot_generation;
         let count = std::num::wrapping_add_u32(prev, 1);
-        if prev == 0 {
+        let first = prev == 0;
+        if first {
             return GroupAccessScope {
                 open_count: count,
                 snapshot_generation: std::num::wrapping_add_u64(generation, 1),
@@ -272,7 +274,8 @@ impl GroupAccessScope {
     {
         let cur = self.open_count;
         let same = self.snapshot_generation;
-        if cur == 0 {
+        let none = cur == 0;
+        if none {
             return self;
         }
         GroupAccessScope {

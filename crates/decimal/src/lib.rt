@@ -30,7 +30,8 @@ pub fn read_unsigned(s: &[u8]) -> Unsigned
     if s.len() == 0 {
         return Unsigned::Bad; // an empty field
     }
-    if s.len() == 1 {
+    let single = s.len() == 1;
+    if single {
         return digits(s);
     }
     if s[0] == b'0' {
@@ -70,7 +71,8 @@ pub fn field_end(s: &[u8], at: usize, stop: u8) -> usize
     }
     let mut i = at;
     while i < s.len() {
-        if s[i] == stop {
+        let ends = s[i] == stop;
+        if ends {
             return i;
         }
         i += 1;
@@ -109,7 +111,8 @@ pub fn put_signed(out: &mut [u8], at: usize, x: i64) -> usize
     ensures { (result, out.new) ≡ put out.old at (signed_digits x) }
 {
     let bits = bits_of(x);
-    if x < 0 {
+    let negative = x < 0;
+    if negative {
         let next = put_bytes(out, at, b"-");
         return put_unsigned(out, next, !bits + 1); // the size of x
     }
@@ -143,7 +146,8 @@ fn digits(s: &[u8]) -> Unsigned
 fn positive(n: u64) -> Signed
     ensures { signed_as result ≡ plus (at_most (2 ^ 63 - 1) (some n)) }
 {
-    if n <= 9223372036854775807 {
+    let fits = n <= 9223372036854775807;
+    if fits {
         Signed::Value(n as i64)
     } else {
         Signed::Bad
@@ -157,7 +161,8 @@ fn negative(n: u64) -> Signed
     if n == 0 {
         return Signed::Value(0);
     }
-    if n <= 9223372036854775808 {
+    let fits = n <= 9223372036854775808;
+    if fits {
         Signed::Value(!((n - 1) as i64))
     } else {
         Signed::Bad

@@ -47,7 +47,8 @@ pub fn letter_at(s: &[u8], at: usize) -> u8
     if s.len() - at < 2 {
         return 0;
     }
-    if s[at + 1] == b' ' {
+    let space = s[at + 1] == b' ';
+    if space {
         return s[at];
     }
     0
@@ -243,7 +244,8 @@ fn unsigned_from(s: &[u8], from: usize, newlines: bool) -> LongAfter
     if read.end == from {
         return missed(); // an empty field
     }
-    if s[from] != b'0' {
+    let other = s[from] != b'0';
+    if other {
         return read;
     }
     if read.end == from + 1 {
@@ -263,7 +265,8 @@ fn digits_from(s: &[u8], from: usize, newlines: bool) -> LongAfter
         if b < b'0' {
             return ended(b, newlines, v, i);
         }
-        if b'9' < b {
+        let above = b'9' < b;
+        if above {
             return missed();
         }
         let d = (b - b'0') as u64;
@@ -293,7 +296,8 @@ fn is_above(v: u64, d: u64) -> bool
     requires { d ≤ 9 }
     ensures { result ≡ ltb (2 ^ 64 - 1) (v * 10 + d) }
 {
-    if v < 1844674407370955161 {
+    let below = v < 1844674407370955161;
+    if below {
         return false;
     }
     (LARGEST - d) / 10 < v

@@ -60,7 +60,8 @@ pub fn field_count(line: &[u8]) -> usize
     while i < line.len() {
         let b = line[i];
         i += 1;
-        if b == b' ' {
+        let space = b == b' ';
+        if space {
             n += 1;
         }
     }
@@ -72,7 +73,8 @@ pub fn only_byte(line: &[u8], k: usize) -> u8
     ensures { result ≡ only (field_at k line.now) }
 {
     let field = span(line, k);
-    if field.len() == 1 {
+    let single = field.len() == 1;
+    if single {
         return field[0];
     }
     0

@@ -47,7 +47,8 @@ fn carry(nanosec: u64) -> Carried
     let mut sec: u64 = 0;
     let mut left = nanosec;
     while sec < 5 {
-        if left < 1000000000 {
+        let done = left < 1000000000;
+        if done {
             return Carried { sec, nanosec: left };
         }
         left -= 1000000000;
@@ -170,7 +171,8 @@ impl TbfHold {
         ensures is { holding_as result ≡ hold instance item arrival separation (hold_as self) }
         ensures kept { Kept (hold_answer_as result.answer) self result.hold }
     {
-        if 1000000000 <= separation.nanosec {
+        let wide = 1000000000 <= separation.nanosec;
+        if wide {
             return Holding {
                 answer: HoldAnswer::BadSeparation,
                 hold: self,

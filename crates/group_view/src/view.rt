@@ -261,7 +261,8 @@ fn reader_above_seven(view: &[u64; 1307]) -> bool
     let mut i: usize = 0;
     while i < n {
         let row = pair_at(view, i);
-        if 7 < row.reader {
+        let above = 7 < row.reader;
+        if above {
             return true;
         }
         i += 1;

@@ -64,7 +64,8 @@ fn value(digit: u8) -> u8
     if digit < b'a' {
         return 16;
     }
-    if digit <= b'f' {
+    let letter = digit <= b'f';
+    if letter {
         return digit - b'a' + 10;
     }
     16

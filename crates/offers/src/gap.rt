@@ -23,7 +23,8 @@ pub fn gap(store: &mut Store, x: Gap) -> Accepted
     let writer = pack(w);
     let ninth = ninth_group(store, group);
     let pair = pair_over_32(store, group, writer);
-    if 7 < x.reader {
+    let above = 7 < x.reader;
+    if above {
         return Accepted::ReaderAboveSeven;
     }
     if ninth {

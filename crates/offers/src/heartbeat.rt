@@ -24,7 +24,8 @@ pub fn heartbeat(store: &mut Store, h: Heartbeat) -> Accepted
     let writer = pack(w);
     let ninth = ninth_group(store, group);
     let pair = pair_over_32(store, group, writer);
-    if ninth {
+    let refused_2 = ninth;
+    if refused_2 {
         return Accepted::NinthGroup;
     }
     if pair {

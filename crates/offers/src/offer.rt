@@ -82,13 +82,16 @@ fn judge(store: &Store, group: Key, writer: Key, o: Offer) -> Offered
     let ninth = ninth_group(store, group);
     let pair = pair_over_32(store, group, writer);
     let full = is_full(store);
-    if 7 < o.reader {
+    let above = 7 < o.reader;
+    if above {
         return Offered::ReaderAboveSeven;
     }
-    if ninth {
+    let refused_2 = ninth;
+    if refused_2 {
         return Offered::NinthGroup;
     }
-    if pair {
+    let refused_3 = pair;
+    if refused_3 {
         return Offered::PairOver32;
     }
     if committed_of(store, group) < clamp(o.number) {

@@ -108,7 +108,8 @@ fn read_row(store: &Store, i: usize, rows: &mut [u64]) -> usize
 pub fn fill_page(store: &Store, rows: &mut [u64]) -> Paged
     ensures { (paged_as result, rows.new) ≡ page_to (state_of store.now) rows.old }
 {
-    if rows.len() / ROW < ROWS {
+    let short = rows.len() / ROW < ROWS;
+    if short {
         return Paged::ListTooShort;
     }
     blank_rows(store, rows);

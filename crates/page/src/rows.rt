@@ -45,7 +45,8 @@ fn oldest_with(tag: u64, oldest: u64, time: u64) -> u64
     ensures { result ≡ cond (eqb tag 2) (min oldest time) time }
 {
     if tag == 2 {
-        if oldest < time {
+        let later = oldest < time;
+        if later {
             return oldest;
         }
     }
@@ -57,7 +58,8 @@ pub(crate) fn one_more(row: PageRow, pending: bool, time: u64) -> PageRow
     requires { Small row }
     ensures { OneMore row pending time result }
 {
-    if row.tag == 0 {
+    let absent = row.tag == 0;
+    if absent {
         return row;
     }
     let oldest = oldest_with(row.tag, row.oldest, time);

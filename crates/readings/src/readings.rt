@@ -23,7 +23,8 @@ pub struct ReleaseCounts {
 pub fn reading_held_for(store: &Store, reader: u8) -> usize
     ensures { result ≡ waiting (state_of store.now) reader }
 {
-    if 7 < reader {
+    let above = 7 < reader;
+    if above {
         return 0;
     }
     let n = entry_count(store);

@@ -53,7 +53,8 @@ fn lower_stale(
             if is_number(own, z) {
                 return low;
             }
-            if find_marked(store, n, group, z) < n {
+            let ended = find_marked(store, n, group, z) < n;
+            if ended {
                 return low;
             }
             lower(z, low)

@@ -15,7 +15,8 @@ pub enum Whole {
 pub fn by_sign(z: i64) -> Whole
     ensures { whole_as result ≡ z }
 {
-    if z < 0 {
+    let negative = z < 0;
+    if negative {
         return Whole::Negative((!z) as u64);
     }
     Whole::NotNegative(z as u64)

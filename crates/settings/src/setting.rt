@@ -40,7 +40,8 @@ impl Setting {
         let lifespan = self.lifespan;
         match lifespan {
             Lifespan::Seconds(seconds) => {
-                if out.len() < 8 {
+                let short = out.len() < 8;
+                if short {
                     return PackAnswer::ListTooShort;
                 }
                 let first = self.shared_bytes(2);
@@ -144,7 +145,8 @@ pub(crate) fn good_length(version: u8, n: usize) -> bool
     if version < 2 {
         return n == 6;
     }
-    if version == 2 {
+    let second = version == 2;
+    if second {
         return n == 8;
     }
     if n < 8 {

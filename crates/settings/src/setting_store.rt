@@ -93,7 +93,8 @@ impl SettingStore {
         if n <= age {
             return ReadAnswer::NotStored;
         }
-        if 8 <= age {
+        let unknown = 8 <= age;
+        if unknown {
             return ReadAnswer::NotStored;
         }
         let kept = self.kept;

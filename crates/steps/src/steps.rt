@@ -63,7 +63,8 @@ pub fn lower(z: i64, low: Optional) -> Optional
     match low {
         Optional::Absent => Optional::Present(z),
         Optional::Present(y) => {
-            if y < z {
+            let lower = y < z;
+            if lower {
                 return low;
             }
             Optional::Present(z)

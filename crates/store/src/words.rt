@@ -24,7 +24,8 @@ pub(crate) fn size(s: &[u64]) -> usize
 pub fn lesser(a: usize, b: usize) -> usize
     ensures { result ≡ min a b }
 {
-    if a < b {
+    let less = a < b;
+    if less {
         return a;
     }
     b
@@ -74,7 +75,8 @@ pub(crate) fn raise_word(store: &mut Store, p: usize, v: u64)
     ensures long { length store.new ≡ words }
 {
     whole(store);
-    if word(store, p) < v {
+    let higher = word(store, p) < v;
+    if higher {
         put_word(store, p, v);
     }
 }

@@ -57,7 +57,8 @@ pub enum Turn {
 pub fn note_reader(view: &mut [u64; 1307], row: Progress)
     ensures { NotedReader row view.old view.new }
 {
-    if 7 < row.reader {
+    let above = 7 < row.reader;
+    if above {
         spoil(view);
     }
 }
@@ -126,7 +127,8 @@ fn apply_heartbeat(store: &mut [u64; 6984], group: [u8; 16], writer: [u8; 16], h
 fn apply_gap(store: &mut [u64; 6984], group: [u8; 16], writer: [u8; 16], reader: u8, end: i64)
     ensures { state_of store.new ≡ run (state_of store.old) (gap_calls group writer reader end) }
 {
-    if 0 < end {
+    let above = 0 < end;
+    if above {
         GroupOrder::gap(
             store,
             Gap {

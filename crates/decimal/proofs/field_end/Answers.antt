@@ -11,11 +11,11 @@ returns-then-s-at c = end_past c.args.stop c.args.s.now c.args.at c.if-s-at.true
 pub loop-i-init : goal.loop-i-init
 loop-i-init c = (omega arith, end_within c.args.stop c.args.s.now c.args.at (omega arith))
 
-pub returns-then-s-i : goal.returns-then-s-i
-returns-then-s-i c = omega (arith, stop_here c.args.stop c.args.s.now c.loop-i.i c.loop-i-test.true c.if-s-i.true)
+pub returns-then-ends : goal.returns-then-ends
+returns-then-ends c = omega (arith, stop_here c.args.stop c.args.s.now c.loop-i.i c.loop-i-test.true c.if-ends.true)
 
 pub loop-i-preserved : goal.loop-i-preserved
-loop-i-preserved c = omega (arith, stop_later c.args.stop c.args.s.now c.loop-i.i c.loop-i-test.true c.if-s-i.false)
+loop-i-preserved c = omega (arith, stop_later c.args.stop c.args.s.now c.loop-i.i c.loop-i-test.true c.if-ends.false)
 
 pub returns : goal.returns
 unfolding before

@@ -10,11 +10,11 @@ pub returns-then-n-eq0 : goal.returns-then-n-eq0
 unfolding signed_as minus at_most given
 returns-then-n-eq0 c = rw c.if-n-eq0.true
 
-pub returns-then-n-le9223372036854775808 : goal.returns-then-n-le9223372036854775808
+pub returns-then-fits : goal.returns-then-fits
 unfolding signed_as minus at_most given
-returns-then-n-le9223372036854775808 c = let n = c.args.n in
+returns-then-fits c = let n = c.args.n in
     rw (le-leb n (2 ^ 63) (omega arith), negative_bits n (omega (arith, c.if-n-eq0.false)) (omega arith))
 
-pub returns-else-n-le9223372036854775808 : goal.returns-else-n-le9223372036854775808
+pub returns-else-fits : goal.returns-else-fits
 unfolding signed_as minus at_most given
-returns-else-n-le9223372036854775808 c = rw (lt-leb c.args.n (2 ^ 63) (omega arith))
+returns-else-fits c = rw (lt-leb c.args.n (2 ^ 63) (omega arith))

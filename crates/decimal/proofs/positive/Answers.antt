@@ -7,10 +7,10 @@ use mir.ValLaws.{to_z_pos}
 use Rattle.decimal.specs.Read.{signed_as, plus, at_most, given}
 use Rattle.decimal.proofs.positive.Goals as goal
 
-pub returns-then-n-le9223372036854775807 : goal.returns-then-n-le9223372036854775807
+pub returns-then-fits : goal.returns-then-fits
 unfolding signed_as plus at_most given
-returns-then-n-le9223372036854775807 c = rw (le-leb c.args.n (2 ^ 63 - 1) (omega arith), to_z_pos w64 c.args.n (omega arith))
+returns-then-fits c = rw (le-leb c.args.n (2 ^ 63 - 1) (omega arith), to_z_pos w64 c.args.n (omega arith))
 
-pub returns-else-n-le9223372036854775807 : goal.returns-else-n-le9223372036854775807
+pub returns-else-fits : goal.returns-else-fits
 unfolding signed_as plus at_most given
-returns-else-n-le9223372036854775807 c = rw (lt-leb c.args.n (2 ^ 63 - 1) (omega arith))
+returns-else-fits c = rw (lt-leb c.args.n (2 ^ 63 - 1) (omega arith))

@@ -10,14 +10,14 @@ pub returns-then-s-eq0 : goal.returns-then-s-eq0
 unfolding unsigned_as read_unsigned read_number at_most given
 returns-then-s-eq0 c = rw (plain_none c.args.s.now c.if-s-eq0.true)
 
-pub returns-then-s-eq1 : goal.returns-then-s-eq1
+pub returns-then-single : goal.returns-then-single
 unfolding read_unsigned read_number given
-returns-then-s-eq1 c = rw (c.digits.ensures, plain_one c.args.s.now c.if-s-eq1.true)
+returns-then-single c = rw (c.digits.ensures, plain_one c.args.s.now c.if-single.true)
 
 pub returns-then-s-eq48 : goal.returns-then-s-eq48
 unfolding unsigned_as read_unsigned read_number at_most given
 returns-then-s-eq48 c = let s = c.args.s.now in
-    rw (plain_more s (omega (arith, c.if-s-eq0.false, c.if-s-eq1.false)), eq-eqb (get_or s 0 0) 48 c.if-s-eq48.true)
+    rw (plain_more s (omega (arith, c.if-s-eq0.false, c.if-single.false)), eq-eqb (get_or s 0 0) 48 c.if-s-eq48.true)
 
 pub returns : goal.returns
 unfolding read_unsigned read_number given

@@ -4,8 +4,8 @@ use Rattle.fields.specs.Fields.{only}
 use Rattle.fields.proofs.Told.{only_one, only_other}
 use Rattle.fields.proofs.only_byte.Goals as goal
 
-pub returns-then-field-eq1 : goal.returns-then-field-eq1
-returns-then-field-eq1 c = only_one c.span-field.result.now c.if-field-eq1.true ∙ ap (λ s. only s) c.span-field.ensures
+pub returns-then-single : goal.returns-then-single
+returns-then-single c = only_one c.span-field.result.now c.if-single.true ∙ ap (λ s. only s) c.span-field.ensures
 
 pub returns : goal.returns
-returns c = only_other c.span-field.result.now c.if-field-eq1.false ∙ ap (λ s. only s) c.span-field.ensures
+returns c = only_other c.span-field.result.now c.if-single.false ∙ ap (λ s. only s) c.span-field.ensures

@@ -21,9 +21,9 @@ unfolding value_of value_by half half_by
 returns-then-digit-lt97 c = let d = c.args.digit in
     simp (le-leb 48 d (omega arith), lt-leb d 57 (omega arith), lt-leb 97 d (omega arith))
 
-pub returns-then-digit-le102 : goal.returns-then-digit-le102
+pub returns-then-letter : goal.returns-then-letter
 unfolding value_of value_by half half_by
-returns-then-digit-le102 c = let d = c.args.digit in
+returns-then-letter c = let d = c.args.digit in
     let e : d - 97 + 10 ≡ d - 87 = omega arith in
     simp (le-leb 48 d (omega arith), lt-leb d 57 (omega arith), le-leb 97 d (omega arith), le-leb d 102 (omega arith), e, lt-ltb (d - 87) 16 (omega arith))
 

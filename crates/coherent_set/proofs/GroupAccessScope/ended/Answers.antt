@@ -3,10 +3,10 @@ use Rattle.std.proofs.Common.{eq-eqb, ne_eqb}
 use Rattle.coherent_set.specs.Access.{end_access}
 use Rattle.coherent_set.proofs.GroupAccessScope.ended.Goals as goal
 
-pub returns-then-cur-eq0 : goal.returns-then-cur-eq0
+pub returns-then-none : goal.returns-then-none
 unfolding end_access
-returns-then-cur-eq0 c = simp (eq-eqb _ _ c.if-cur-eq0.true)
+returns-then-none c = simp (eq-eqb _ _ c.if-none.true)
 
 pub returns : goal.returns
 unfolding end_access
-returns c = simp (ne_eqb _ _ c.if-cur-eq0.false)
+returns c = simp (ne_eqb _ _ c.if-none.false)

@@ -14,13 +14,13 @@ pub returns-then-b-lt48 : goal.returns-then-b-lt48
 unfolding ends field_from rest
 returns-then-b-lt48 c = c.ended.ensures ∙ sym (c.loop-i.invariant.1 ∙ ap (λ r. long_to r) (rest_low c.args.newlines c.args.s.now c.loop-i.v c.loop-i.i c.loop-i-test.true c.loop-i.invariant.0 c.if-b-lt48.true))
 
-pub returns-then-b-gt57 : goal.returns-then-b-gt57
+pub returns-then-above : goal.returns-then-above
 unfolding ends field_from rest
-returns-then-b-gt57 c = c.missed.ensures ∙ sym (c.loop-i.invariant.1 ∙ ap (λ r. long_to r) (rest_high c.args.newlines c.args.s.now c.loop-i.v c.loop-i.i c.loop-i-test.true c.if-b-gt57.true))
+returns-then-above c = c.missed.ensures ∙ sym (c.loop-i.invariant.1 ∙ ap (λ r. long_to r) (rest_high c.args.newlines c.args.s.now c.loop-i.v c.loop-i.i c.loop-i-test.true c.if-above.true))
 
 pub returns-then-is_above : goal.returns-then-is_above
 unfolding ends field_from rest
-returns-then-is_above c = c.missed-then-is_above.ensures ∙ sym (c.loop-i.invariant.1 ∙ ap (λ r. long_to r) (rest_above c.args.newlines c.args.s.now c.loop-i.v c.loop-i.i c.loop-i-test.true c.if-b-lt48.false c.if-b-gt57.false (ltb-true (2 ^ 64 - 1) (c.loop-i.v * 10 + (get_or c.args.s.now c.loop-i.i 0 - 48)) (sym c.is_above.ensures ∙ c.if-is_above.true))))
+returns-then-is_above c = c.missed-then-is_above.ensures ∙ sym (c.loop-i.invariant.1 ∙ ap (λ r. long_to r) (rest_above c.args.newlines c.args.s.now c.loop-i.v c.loop-i.i c.loop-i-test.true c.if-b-lt48.false c.if-above.false (ltb-true (2 ^ 64 - 1) (c.loop-i.v * 10 + (get_or c.args.s.now c.loop-i.i 0 - 48)) (sym c.is_above.ensures ∙ c.if-is_above.true))))
 
 pub overflow_mul-v : goal.overflow_mul-v
 overflow_mul-v c = omega (arith, ltb-false (2 ^ 64 - 1) (c.loop-i.v * 10 + (get_or c.args.s.now c.loop-i.i 0 - 48)) (sym c.is_above.ensures ∙ c.if-is_above.false))
@@ -29,7 +29,7 @@ pub overflow_add-v : goal.overflow_add-v
 overflow_add-v c = omega (arith, ltb-false (2 ^ 64 - 1) (c.loop-i.v * 10 + (get_or c.args.s.now c.loop-i.i 0 - 48)) (sym c.is_above.ensures ∙ c.if-is_above.false))
 
 pub loop-i-preserved : goal.loop-i-preserved
-loop-i-preserved c = (omega (arith, ltb-false (2 ^ 64 - 1) (c.loop-i.v * 10 + (get_or c.args.s.now c.loop-i.i 0 - 48)) (sym c.is_above.ensures ∙ c.if-is_above.false)), c.loop-i.invariant.1 ∙ ap (λ r. long_to r) (rest_next c.args.newlines c.args.s.now c.loop-i.v c.loop-i.i c.loop-i-test.true c.if-b-lt48.false c.if-b-gt57.false))
+loop-i-preserved c = (omega (arith, ltb-false (2 ^ 64 - 1) (c.loop-i.v * 10 + (get_or c.args.s.now c.loop-i.i 0 - 48)) (sym c.is_above.ensures ∙ c.if-is_above.false)), c.loop-i.invariant.1 ∙ ap (λ r. long_to r) (rest_next c.args.newlines c.args.s.now c.loop-i.v c.loop-i.i c.loop-i-test.true c.if-b-lt48.false c.if-above.false))
 
 pub returns : goal.returns
 unfolding field_from rest long_to

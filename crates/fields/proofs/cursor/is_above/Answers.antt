@@ -6,8 +6,8 @@ use borrow.Author.Tests.{le-ltb}
 use Rattle.fields.proofs.OnePass.{by_division}
 use Rattle.fields.proofs.cursor.is_above.Goals as goal
 
-pub returns-then-v-lt1844674407370955161 : goal.returns-then-v-lt1844674407370955161
-returns-then-v-lt1844674407370955161 c = sym (le-ltb (2 ^ 64 - 1) (c.args.v * 10 + c.args.d) (omega (arith, c.requires)))
+pub returns-then-below : goal.returns-then-below
+returns-then-below c = sym (le-ltb (2 ^ 64 - 1) (c.args.v * 10 + c.args.d) (omega (arith, c.requires)))
 
 pub returns : goal.returns
 returns c = by_division c.args.v c.args.d c.requires

@@ -15,10 +15,10 @@ pub returns-then-s-at-lt2 : goal.returns-then-s-at-lt2
 unfolding letter_at
 returns-then-s-at-lt2 c = rw (get_past c.args.s.now (c.args.at + 1) (omega arith))
 
-pub returns-then-s-at-eq32 : goal.returns-then-s-at-eq32
+pub returns-then-space : goal.returns-then-space
 unfolding letter_at
-returns-then-s-at-eq32 c = rw (eq-eqb (get_or c.args.s.now (c.args.at + 1) 0) 32 c.if-s-at-eq32.true)
+returns-then-space c = rw (eq-eqb (get_or c.args.s.now (c.args.at + 1) 0) 32 c.if-space.true)
 
 pub returns : goal.returns
 unfolding letter_at
-returns c = rw (ne_eqb (get_or c.args.s.now (c.args.at + 1) 0) 32 c.if-s-at-eq32.false)
+returns c = rw (ne_eqb (get_or c.args.s.now (c.args.at + 1) 0) 32 c.if-space.false)

@@ -17,10 +17,10 @@ unfolding field_from
 returns-then-read-from c = let a = c.args in
     c.missed-then-read-from.ensures ∙ unsigned_none a.from (field_in a.newlines (drop a.from a.s.now)) (omega arith) (ap (λ (r : LongAfter). r.end) (sym c.digits_from-read.ensures) ∙ c.if-read-from.true)
 
-pub returns-then-s-from-ne48 : goal.returns-then-s-from-ne48
+pub returns-then-other : goal.returns-then-other
 unfolding field_from
-returns-then-s-from-ne48 c = let a = c.args in
-    c.digits_from-read.ensures ∙ unsigned_some a.from (field_in a.newlines (drop a.from a.s.now)) (λ l e. c.if-s-from-ne48.true (sym (head_is a.newlines a.s.now a.from l) ∙ e)) (λ e. c.if-read-from.false (ap (λ (r : LongAfter). r.end) c.digits_from-read.ensures ∙ e))
+returns-then-other c = let a = c.args in
+    c.digits_from-read.ensures ∙ unsigned_some a.from (field_in a.newlines (drop a.from a.s.now)) (λ l e. c.if-other.true (sym (head_is a.newlines a.s.now a.from l) ∙ e)) (λ e. c.if-read-from.false (ap (λ (r : LongAfter). r.end) c.digits_from-read.ensures ∙ e))
 
 pub returns-then-read-from-2 : goal.returns-then-read-from-2
 unfolding field_from
@@ -31,4 +31,4 @@ pub returns : goal.returns
 unfolding field_from
 returns c = let a = c.args in
     let d = ap (λ (r : LongAfter). r.end) c.digits_from-read.ensures in
-    c.missed-2.ensures ∙ unsigned_other a.from (field_in a.newlines (drop a.from a.s.now)) (λ l. head_is a.newlines a.s.now a.from l ∙ c.if-s-from-ne48.false) (λ e. c.if-read-from.false (d ∙ e)) (λ e. c.if-read-from-2.false (d ∙ e))
+    c.missed-2.ensures ∙ unsigned_other a.from (field_in a.newlines (drop a.from a.s.now)) (λ l. head_is a.newlines a.s.now a.from l ∙ c.if-other.false) (λ e. c.if-read-from.false (d ∙ e)) (λ e. c.if-read-from-2.false (d ∙ e))

@@ -6,17 +6,17 @@ use Rattle.group_view.proofs.Views.{above_seven, pairs_read}
 use Rattle.laws.proofs.Loops.{searched, any_hit, any_miss}
 use Rattle.group_view.proofs.view.reader_above_seven.Goals as goal
 
-pub returns-then-row-gt7 : goal.returns-then-row-gt7
+pub returns-then-above : goal.returns-then-above
 unfolding pair_for
-returns-then-row-gt7 c = let v = c.args.view.now in
+returns-then-above c = let v = c.args.view.now in
     let k = c.pair_at-row in
-    sym (c.loop-i.invariant ∙ any_hit above_seven _ _ _ (pairs_read c.loop-i.i v k.result k.ensures (omega arith)) (lt-ltb 7 _ c.if-row-gt7.true))
+    sym (c.loop-i.invariant ∙ any_hit above_seven _ _ _ (pairs_read c.loop-i.i v k.result k.ensures (omega arith)) (lt-ltb 7 _ c.if-above.true))
 
 pub loop-i-preserved : goal.loop-i-preserved
 unfolding pair_for
 loop-i-preserved c = let v = c.args.view.now in
     let k = c.pair_at-row in
-    c.loop-i.invariant ∙ any_miss above_seven _ _ _ (pairs_read c.loop-i.i v k.result k.ensures (omega arith)) (le-ltb 7 _ c.if-row-gt7.false)
+    c.loop-i.invariant ∙ any_miss above_seven _ _ _ (pairs_read c.loop-i.i v k.result k.ensures (omega arith)) (le-ltb 7 _ c.if-above.false)
 
 pub returns : goal.returns
 returns c = let v = c.args.view.now in

@@ -22,17 +22,17 @@ ninth_is c = c.ninth_group-ninth.ensures ∙ ap (λ g. ninth g (state_of c.args.
 pair_is : (c : After-pair_over_32-pair) → c.pair_over_32-pair.result ≡ pair33 c.args.x.group c.args.x.writer (state_of c.args.store.now)
 pair_is c = c.pair_over_32-pair.ensures ∙ ap₂ (λ g w. pair33 g w (state_of c.args.store.now)) c.pack-group.ensures c.pack-writer.ensures
 
-pub returns-then-x-gt7 : goal.returns-then-x-gt7
+pub returns-then-above : goal.returns-then-above
 unfolding gap gap_as told_as Kept refusal
-returns-then-x-gt7 c = record { is = rw (lt-ltb _ _ c.if-x-gt7.true); kept = refl }
+returns-then-above c = record { is = rw (lt-ltb _ _ c.if-above.true); kept = refl }
 
 pub returns-then-ninth : goal.returns-then-ninth
 unfolding gap gap_as told_as Kept refusal
-returns-then-ninth c = record { is = rw (le-ltb _ _ c.if-x-gt7.false, sym (ninth_is (goal.at.returns-then-ninth c).After-pair_over_32-pair) ∙ c.if-ninth.true); kept = refl }
+returns-then-ninth c = record { is = rw (le-ltb _ _ c.if-above.false, sym (ninth_is (goal.at.returns-then-ninth c).After-pair_over_32-pair) ∙ c.if-ninth.true); kept = refl }
 
 pub returns-then-pair : goal.returns-then-pair
 unfolding gap gap_as told_as Kept refusal
-returns-then-pair c = record { is = rw (le-ltb _ _ c.if-x-gt7.false, sym (ninth_is (goal.at.returns-then-pair c).After-pair_over_32-pair) ∙ c.if-ninth.false, sym (pair_is (goal.at.returns-then-pair c).After-pair_over_32-pair) ∙ c.if-pair.true); kept = refl }
+returns-then-pair c = record { is = rw (le-ltb _ _ c.if-above.false, sym (ninth_is (goal.at.returns-then-pair c).After-pair_over_32-pair) ∙ c.if-ninth.false, sym (pair_is (goal.at.returns-then-pair c).After-pair_over_32-pair) ∙ c.if-pair.true); kept = refl }
 
 pub returns : goal.returns
 unfolding gap gap_as told_as Kept refusal state_of
@@ -41,7 +41,7 @@ returns c = let group = c.hear_group.ensures.is ∙ heard_group_lem _ _ (sym c.n
     let heard = then_heard _ _ _ _ _ _ _ group writer in
     let told = then_told _ _ _ _ _ _ _ _ _ heard c.hear_writer-i.ensures.found c.note_gap.ensures in
     let n = counted c.args.x.number c.clamp.result (search rules) c.clamp.ensures in record {
-      is = rw (le-ltb _ _ c.if-x-gt7.false, sym (ninth_is (goal.at.returns c).After-pair_over_32-pair) ∙ c.if-ninth.false, sym (pair_is (goal.at.returns c).After-pair_over_32-pair) ∙ c.if-pair.false)
+      is = rw (le-ltb _ _ c.if-above.false, sym (ninth_is (goal.at.returns c).After-pair_over_32-pair) ∙ c.if-ninth.false, sym (pair_is (goal.at.returns c).After-pair_over_32-pair) ∙ c.if-pair.false)
           (ap {B = Answer (Unit {0}) × State ℕ} (λ t. (answered tt, t)) (rw (c.pack-group.ensures, c.pack-writer.ensures, n) at told));
       kept = tt;
     }

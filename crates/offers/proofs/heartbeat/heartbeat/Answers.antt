@@ -21,18 +21,18 @@ ninth_is c = c.ninth_group-ninth.ensures ∙ ap (λ g. ninth g (state_of c.args.
 pair_is : (c : After-pair_over_32-pair) → c.pair_over_32-pair.result ≡ pair33 c.args.h.group c.args.h.writer (state_of c.args.store.now)
 pair_is c = c.pair_over_32-pair.ensures ∙ ap₂ (λ g w. pair33 g w (state_of c.args.store.now)) c.pack-group.ensures c.pack-writer.ensures
 
-pub returns-then-ninth : goal.returns-then-ninth
+pub returns-then-refused_2 : goal.returns-then-refused_2
 unfolding heartbeat heartbeat_as told_as Kept refusal
-returns-then-ninth c = record { is = rw (sym (ninth_is (goal.at.returns-then-ninth c).After-pair_over_32-pair) ∙ c.if-ninth.true); kept = refl }
+returns-then-refused_2 c = record { is = rw (sym (ninth_is (goal.at.returns-then-refused_2 c).After-pair_over_32-pair) ∙ c.if-refused_2.true); kept = refl }
 
 pub returns-then-pair : goal.returns-then-pair
 unfolding heartbeat heartbeat_as told_as Kept refusal
-returns-then-pair c = record { is = rw (sym (ninth_is (goal.at.returns-then-pair c).After-pair_over_32-pair) ∙ c.if-ninth.false, sym (pair_is (goal.at.returns-then-pair c).After-pair_over_32-pair) ∙ c.if-pair.true); kept = refl }
+returns-then-pair c = record { is = rw (sym (ninth_is (goal.at.returns-then-pair c).After-pair_over_32-pair) ∙ c.if-refused_2.false, sym (pair_is (goal.at.returns-then-pair c).After-pair_over_32-pair) ∙ c.if-pair.true); kept = refl }
 
 pub returns : goal.returns
 unfolding heartbeat heartbeat_as told_as Kept refusal state_of
 returns c = let h = c.args.h in
-    let group = c.hear_group.ensures.is ∙ heard_group_lem _ _ (sym c.ninth_group-ninth.ensures ∙ c.if-ninth.false) in
+    let group = c.hear_group.ensures.is ∙ heard_group_lem _ _ (sym c.ninth_group-ninth.ensures ∙ c.if-refused_2.false) in
     let announced = then_announced _ _ _ _ _ _ _ group c.announce.ensures.is in
     let writer = c.hear_writer-i.ensures.is ∙ heard_writer_lem _ _ _ (pair_kept _ _ _ _ _ announced (sym c.pair_over_32-pair.ensures ∙ c.if-pair.false)) in
     let heard = then_heard _ _ _ _ _ _ _ announced writer in
@@ -43,7 +43,7 @@ returns c = let h = c.args.h in
     let current-2 = counted h.current c.clamp-4.result (search rules) c.clamp-4.ensures in
     let digest = digest_back h.digest c.digest_word.result c.digest_word.ensures.is c.digest_word.ensures.low in
     let secure = digest_back h.secure c.digest_word-2.result c.digest_word-2.ensures.is c.digest_word-2.ensures.low in record {
-      is = rw (sym (ninth_is (goal.at.returns c).After-pair_over_32-pair) ∙ c.if-ninth.false, sym (pair_is (goal.at.returns c).After-pair_over_32-pair) ∙ c.if-pair.false)
+      is = rw (sym (ninth_is (goal.at.returns c).After-pair_over_32-pair) ∙ c.if-refused_2.false, sym (pair_is (goal.at.returns c).After-pair_over_32-pair) ∙ c.if-pair.false)
           (ap {B = Answer (Unit {0}) × State ℕ} (λ t. (answered tt, t)) (rw (c.pack-group.ensures, c.pack-writer.ensures, current, first, last, current-2, digest, secure) at told));
       kept = tt;
     }

@@ -10,9 +10,9 @@ use Rattle.page.proofs.Reading.{reading_none, reading_long, reading_small, readi
 use borrow.Author.Rules.{rules}
 use Rattle.page.proofs.fill.fill_page.Goals as goal
 
-pub returns-then-rows-lt-ROWS : goal.returns-then-rows-lt-ROWS
+pub returns-then-short : goal.returns-then-short
 unfolding paged_as page_to page
-returns-then-rows-lt-ROWS c = rw (lt-ltb _ _ c.if-rows-lt-ROWS.true)
+returns-then-short c = rw (lt-ltb _ _ c.if-short.true)
 
 pub loop-i-init : goal.loop-i-init
 loop-i-init c = (omega arith, (reading_none c.args.store.now _ _ c.blank_rows.ensures, refl))

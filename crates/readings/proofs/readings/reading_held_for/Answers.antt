@@ -10,9 +10,9 @@ use Rattle.store.specs.Store.{state_of}
 use Rattle.store.proofs.Asked.{counted_le, asked_count}
 use Rattle.readings.proofs.readings.reading_held_for.Goals as goal
 
-pub returns-then-reader-gt7 : goal.returns-then-reader-gt7
+pub returns-then-above : goal.returns-then-above
 unfolding waiting
-returns-then-reader-gt7 c = rw (lt-ltb _ _ c.if-reader-gt7.true)
+returns-then-above c = rw (lt-ltb _ _ c.if-above.true)
 
 pub overflow_add-result : goal.overflow_add-result
 overflow_add-result c = let n = c.entry_count-n.result in
@@ -26,4 +26,4 @@ returns c = let n = c.entry_count-n in
     let p : Entry ℕ → Bool = λ e. is_sample e && eqb a.reader e.reader in
     let pending = asked_count 0 p a.store.now n.ensures c.of_reader.result c.of_reader.ensures c.count_rows.ensures in
     let held = asked_count 1 p a.store.now n.ensures c.of_reader-2.result c.of_reader-2.ensures c.count_rows-2.ensures in
-    rw (le-ltb 7 a.reader c.if-reader-gt7.false, pending, held)
+    rw (le-ltb 7 a.reader c.if-above.false, pending, held)

@@ -18,8 +18,8 @@ returns-then-is_number c = let a = c.args in
     let is = read_set c.read_entry-e.result h z c.read_entry-e.ensures c.in-Present.is back in
     stale_own (key_as a.group) (optional_as a.own) (optional_as a.low) (staged 1 (rows_in a.n a.store.now)) h (to_z w64 (of_z w64 z)) is c.requires.2 (sym c.is_number.ensures ∙ c.if-is_number.true)
 
-pub returns-then-find_marked-n : goal.returns-then-find_marked-n
-returns-then-find_marked-n c = let a = c.args in
+pub returns-then-ended : goal.returns-then-ended
+returns-then-ended c = let a = c.args in
     let g = key_as a.group in
     let z = c.in-Present.z in
     let back : to_z w64 (of_z w64 z) ≡ z = search rules in
@@ -32,8 +32,8 @@ unfolding entry_as optional_as
 returns-in-Absent c = let a = c.args in
     stale_absent (key_as a.group) (optional_as a.own) (optional_as a.low) (staged 1 (rows_in a.n a.store.now)) (row_at a.i a.store.now).entry (sym (ap (λ e. e.set) c.read_entry-e.ensures) ∙ ap (λ o. optional_as o) c.in-Absent.is)
 
-pub returns-else-find_marked-n : goal.returns-else-find_marked-n
-returns-else-find_marked-n c = let a = c.args in
+pub returns-else-ended : goal.returns-else-ended
+returns-else-ended c = let a = c.args in
     let g = key_as a.group in
     let z = c.in-Present.z in
     let back : to_z w64 (of_z w64 z) ≡ z = search rules in

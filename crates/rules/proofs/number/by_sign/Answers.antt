@@ -8,15 +8,15 @@ use Rattle.rules.proofs.Whole.{negative, not_negative}
 use Rattle.rules.proofs.number.by_sign.Goals as goal
 
 pub overflow_cast-result : goal.overflow_cast-result
-overflow_cast-result c = let f = negative c.args.z c.ranges.z c.if-z-lt0.true in rw f.2 (tt, omega (arith, f.3))
+overflow_cast-result c = let f = negative c.args.z c.ranges.z c.if-negative.true in rw f.2 (tt, omega (arith, f.3))
 
-pub returns-then-z-lt0 : goal.returns-then-z-lt0
+pub returns-then-negative : goal.returns-then-negative
 unfolding whole_as
-returns-then-z-lt0 c = let f = negative c.args.z c.ranges.z c.if-z-lt0.true in ap (λ z. negsuc (nat_abs z)) f.2 ∙ sym f.1
+returns-then-negative c = let f = negative c.args.z c.ranges.z c.if-negative.true in ap (λ z. negsuc (nat_abs z)) f.2 ∙ sym f.1
 
 pub overflow_cast-result-2 : goal.overflow_cast-result-2
-overflow_cast-result-2 c = let f = not_negative c.args.z c.ranges.z c.if-z-lt0.false in rw f.2 (tt, omega (arith, f.3))
+overflow_cast-result-2 c = let f = not_negative c.args.z c.ranges.z c.if-negative.false in rw f.2 (tt, omega (arith, f.3))
 
 pub returns : goal.returns
 unfolding whole_as
-returns c = let f = not_negative c.args.z c.ranges.z c.if-z-lt0.false in ap (λ z. pos (nat_abs z)) f.2 ∙ sym f.1
+returns c = let f = not_negative c.args.z c.ranges.z c.if-negative.false in ap (λ z. pos (nat_abs z)) f.2 ∙ sym f.1

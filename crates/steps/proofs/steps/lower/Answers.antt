@@ -8,13 +8,13 @@ use Rattle.store.specs.Records.{optional_as}
 use borrow.Author.Rules.{rules}
 use Rattle.steps.proofs.steps.lower.Goals as goal
 
-pub returns-then-y-z : goal.returns-then-y-z
+pub returns-then-lower : goal.returns-then-lower
 unfolding optional_as
-returns-then-y-z c = let z = c.args.z in
+returns-then-lower c = let z = c.args.z in
     let y = c.in-Present.y in
     let f : to_z w64 (of_z w64 z) ≡ z = search rules in
     let g : to_z w64 (of_z w64 y) ≡ y = search rules in
-    let h : lt_z (to_z w64 (of_z w64 y)) (to_z w64 (of_z w64 z)) ≡ true = c.if-y-z.true in
+    let h : lt_z (to_z w64 (of_z w64 y)) (to_z w64 (of_z w64 z)) ≡ true = c.if-lower.true in
     rw (c.in-Present.is, rw (f, g) at h)
 
 pub returns-in-Absent : goal.returns-in-Absent
@@ -23,11 +23,11 @@ returns-in-Absent c = let z = c.args.z in
     let back : to_z w64 (of_z w64 z) ≡ z = search rules in
     rw (c.in-Absent.is, back)
 
-pub returns-else-y-z : goal.returns-else-y-z
+pub returns-else-lower : goal.returns-else-lower
 unfolding optional_as
-returns-else-y-z c = let z = c.args.z in
+returns-else-lower c = let z = c.args.z in
     let y = c.in-Present.y in
     let f : to_z w64 (of_z w64 z) ≡ z = search rules in
     let g : to_z w64 (of_z w64 y) ≡ y = search rules in
-    let h : lt_z (to_z w64 (of_z w64 y)) (to_z w64 (of_z w64 z)) ≡ false = c.if-y-z.false in
+    let h : lt_z (to_z w64 (of_z w64 y)) (to_z w64 (of_z w64 z)) ≡ false = c.if-lower.false in
     rw (c.in-Present.is, f, rw (f, g) at h)

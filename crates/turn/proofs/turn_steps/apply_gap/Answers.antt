@@ -11,15 +11,15 @@ use Rattle.turn.proofs.TurnLaws.{gap_done, gap_none}
 use borrow.Author.Rules.{rules}
 use Rattle.turn.proofs.turn_steps.apply_gap.Goals as goal
 
-pub returns-then-end-gt0 : goal.returns-then-end-gt0
+pub returns-then-above : goal.returns-then-above
 unfolding gap_as
-returns-then-end-gt0 c = let a = c.args in
+returns-then-above c = let a = c.args in
     let back : to_z w64 (of_z w64 a.end) ≡ a.end = search rules in
-    let h : lt_z (pos 0) (to_z w64 (of_z w64 a.end)) ≡ true = c.if-end-gt0.true in
+    let h : lt_z (pos 0) (to_z w64 (of_z w64 a.end)) ≡ true = c.if-above.true in
     gap_done (state_of a.store.now) (state_of c.gap.new.store) (told_as c.gap.result) a.group a.writer a.reader a.end (rw back at h) (rw back at c.gap.ensures.is)
 
-pub returns-else-end-gt0 : goal.returns-else-end-gt0
-returns-else-end-gt0 c = let a = c.args in
+pub returns-else-above : goal.returns-else-above
+returns-else-above c = let a = c.args in
     let back : to_z w64 (of_z w64 a.end) ≡ a.end = search rules in
-    let h : lt_z (pos 0) (to_z w64 (of_z w64 a.end)) ≡ false = c.if-end-gt0.false in
+    let h : lt_z (pos 0) (to_z w64 (of_z w64 a.end)) ≡ false = c.if-above.false in
     gap_none (state_of a.store.now) a.group a.writer a.reader a.end (rw back at h)

@@ -7,10 +7,10 @@ use Rattle.group_view.specs.View.{more}
 use Rattle.group_view.proofs.Noting.{or_false}
 use Rattle.turn.proofs.turn_steps.note_reader.Goals as goal
 
-pub returns-then-row-gt7 : goal.returns-then-row-gt7
-returns-then-row-gt7 c = let v = c.args.view.now in
-    record { pairs = c.spoil.ensures.pairs; digests = c.spoil.ensures.digests; any_more = c.spoil.ensures.over ∙ sym (or_true_right (more v) _ (lt-ltb 7 c.args.row.reader c.if-row-gt7.true)) }
+pub returns-then-above : goal.returns-then-above
+returns-then-above c = let v = c.args.view.now in
+    record { pairs = c.spoil.ensures.pairs; digests = c.spoil.ensures.digests; any_more = c.spoil.ensures.over ∙ sym (or_true_right (more v) _ (lt-ltb 7 c.args.row.reader c.if-above.true)) }
 
-pub returns-else-row-gt7 : goal.returns-else-row-gt7
-returns-else-row-gt7 c = let v = c.args.view.now in
-    record { pairs = refl; digests = refl; any_more = sym (or_false (more v)) ∙ ap (λ b. more v || b) (sym (le-ltb 7 c.args.row.reader c.if-row-gt7.false)) }
+pub returns-else-above : goal.returns-else-above
+returns-else-above c = let v = c.args.view.now in
+    record { pairs = refl; digests = refl; any_more = sym (or_false (more v)) ∙ ap (λ b. more v || b) (sym (le-ltb 7 c.args.row.reader c.if-above.false)) }

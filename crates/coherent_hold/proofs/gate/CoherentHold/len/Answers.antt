@@ -7,8 +7,8 @@ use Rattle.laws.proofs.Arrays.{arr_len}
 use Rattle.coherent_hold.proofs.GateLaws.{hold_length}
 use Rattle.coherent_hold.proofs.gate.CoherentHold.len.Goals as goal
 
-pub returns-then-n-lt64 : goal.returns-then-n-lt64
-returns-then-n-lt64 c = let long : length c.args.self.held ≡ 64 = search (rules, arr_len) in
+pub returns-then-fits : goal.returns-then-fits
+returns-then-fits c = let long : length c.args.self.held ≡ 64 = search (rules, arr_len) in
     let e = hold_length c.args.self long in
     omega arith
 

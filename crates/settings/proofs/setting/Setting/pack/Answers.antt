@@ -16,9 +16,9 @@ pub returns-then-not-fits : goal.returns-then-not-fits
 unfolding packed_as
 returns-then-not-fits c = too_wide c.args.self c.args.out.now (sym c.fits.ensures ∙ c.if-not-fits.true)
 
-pub returns-then-out-lt8 : goal.returns-then-out-lt8
+pub returns-then-short : goal.returns-then-short
 unfolding packed_as
-returns-then-out-lt8 c = let x = c.args.self in
+returns-then-short c = let x = c.args.self in
     let f : fits x ≡ true = sym c.fits.ensures ∙ c.if-not-fits.false in
     too_short x c.args.out.now f (omega (arith, long_length x c.in-Seconds.seconds c.in-Seconds.is))
 
@@ -39,16 +39,16 @@ returns-then-out-lt6 c = let x = c.args.self in
 pub shared_bytes-bytes-requires : goal.shared_bytes-bytes-requires
 shared_bytes-bytes-requires c = record { self_value = sym c.fits.ensures ∙ c.if-not-fits.false; version_bound = lit< tt }
 
-pub returns-else-out-lt8 : goal.returns-else-out-lt8
+pub returns-else-short : goal.returns-else-short
 unfolding packed_as
-returns-else-out-lt8 c = let x = c.args.self in
+returns-else-short c = let x = c.args.self in
     let out = c.args.out.now in
     let n = c.in-Seconds.seconds in
     let e : x.lifespan ≡ Seconds n = c.in-Seconds.is in
     let f : fits x ≡ true = sym c.fits.ensures ∙ c.if-not-fits.false in
     let last = n / 256 ∷ n % 256 ∷ [] in
     let b = c.shared_bytes-first in
-    packs x out _ f (long_bytes x n (seconds_lt x n f e) e) (omega (arith, long_length x n e, c.if-out-lt8.false))
+    packs x out _ f (long_bytes x n (seconds_lt x n f e) e) (omega (arith, long_length x n e, c.if-short.false))
     (puts out 0 b.result last c.put_bytes-next.ensures c.put_bytes.ensures ∙ ap (λ s. put out 0 (s ++ last)) b.ensures)
 
 pub returns-else-out-lt6 : goal.returns-else-out-lt6

@@ -15,9 +15,9 @@ unfolding store_as read_as
 returns-then-n-age c = let a = c.args in
     read_none (take a.self.len a.self.kept) a.age (omega (arith, length-take a.self.len a.self.kept))
 
-pub returns-then-age-ge8 : goal.returns-then-age-ge8
+pub returns-then-unknown : goal.returns-then-unknown
 unfolding store_as read_as
-returns-then-age-ge8 c = let a = c.args in
+returns-then-unknown c = let a = c.args in
     let long : length a.self.kept ≡ 8 = search (rules, arr_len) in
     read_none (take a.self.len a.self.kept) a.age (omega (arith, length-take a.self.len a.self.kept))
 
