@@ -82,12 +82,12 @@ def line_term(answer):
     if answer == "ok":
         return "ok"
     if answer in ("stored", "joined", "late"):
-        return answer + "′"
+        return answer + "'"
     if answer.startswith("refused"):
-        return "refused′ " + answer.split()[1]
+        return "refused' " + answer.split()[1]
     handed, counts = answer[3:].split("|")
     pairs = ["(%s, %s)" % tuple(x.split(":")) for x in handed.split()]
-    return f"out′ ({' ∷ '.join(pairs + ['[]'])}) {counts.strip()}"
+    return f"out' ({' ∷ '.join(pairs + ['[]'])}) {counts.strip()}"
 
 
 def main():
@@ -102,12 +102,14 @@ def main():
     with open("crates.txt") as f:
         known = [line for line in f if line.split(":")[0] in beneath + [crate]]
     for name in beneath + [crate]:
-        shutil.copytree(f"crates/{name}", f"{place}/crates/{name}", ignore=shutil.ignore_patterns("must-fail"))
+        shutil.copytree(f"crates/{name}", f"{place}/crates/{name}", ignore=shutil.ignore_patterns("must-fail", "out"))
     with open(f"{place}/crates.txt", "w") as f:
         f.writelines(known)
     proofs = f"{place}/crates/{crate}/proofs"
     with open(f"{proofs}/{file}.antt", encoding="utf-8") as f:
         head = f.read().split(behind)[0]
+    if "negsuc" not in head:
+        head = "use lib.IntN.{negsuc}\n" + head
     with open(f"{proofs}/Lib.antt", "a") as f:
         f.write("pub mod Against\n")
     with open(f"{proofs}/Against.antt", "w", encoding="utf-8") as f:
@@ -116,7 +118,7 @@ def main():
             printed = [next(answers) for _ in lines]
             kept = [line_term(a) for line, a in zip(lines, printed) if line[0] not in "TVD"]
             f.write(f"c{k} : prints {timeout} ({' ∷ '.join(terms + ['[]'])}) ≡ {' ∷ '.join(kept + ['[]'])}\nunfolding prints\nc{k} = refl\n\n")
-    done = subprocess.run(["rt", "check", crate], cwd=place)
+    done = subprocess.run(["rt", "check"], cwd=f"{place}/crates/{crate}")
     print(f"{count} passed, 0 failed" if done.returncode == 0 else f"0 passed, {count} failed: the first error above names a list")
     sys.exit(done.returncode)
 
