@@ -4,13 +4,15 @@
 usage: python3 tools/port/to_answers.py CRATE NAMES.json [FUNCTION-PATH..]
 
 NAMES.json is what `rt check --generated DIR --old-names` writes in the crate's folder. A file of the old form (tie.close)
-is turned; others are left. The old file goes to /tmp/old-proofs. What it could not place is printed.
+is turned; others are left. The old file goes to the folder old-proofs of the temporary files. What it could not place is
+printed.
 """
 import json
 import os
 import re
 import shutil
 import sys
+import tempfile
 
 TRIVIAL = {"omega arith", "search rules", "refl", "search rules depth 9", "tt"}
 
@@ -616,7 +618,7 @@ def turn(crate, path, d, root="."):
                 ans[i] = re.sub(r"(?<![\w.'-])" + re.escape(h) + r" (?:c(?![\w.'-])|«[^»]*»)", call, ans[i])
             for w in re.findall(r"«[^»]*»", ans[i]):
                 said.append(f"a whole record {w} in {goal_now or at_place}")
-    old = f"/tmp/old-proofs/{crate}/{path}"
+    old = os.path.join(tempfile.gettempdir(), "old-proofs", crate, path)
     os.makedirs(old, exist_ok=True)
     shutil.move(f"{folder}/Proof.antt", f"{old}/Proof.antt")
     with open(f"{old}/all.antt", "w") as f:
