@@ -347,9 +347,6 @@ def expand(text):
                 a = bare(m.group(1))
                 return "(" + re.sub(r"(?<![\w.'-])" + re.escape(v) + r"(?![\w'-])", a, body) + ")"
             text = re.sub(r"(?<![\w.'-])" + re.escape(n) + r" (" + ATOM + r")(?![\w'-])", put, text)
-        # a name for a place inside a body: let a = asked c in
-        for m in list(re.finditer(r"let ([A-Za-z_][\w']*) = ([A-Za-z_][\w']*(?:\.before)*) in[ \n]?", text)):
-            pass
         if text == before:
             break
     text = re.sub(r"\(\(([^()]*)\)\)", r"(\1)", text)
@@ -448,7 +445,7 @@ def turn(crate, path, d, root="."):
         return None
     if re.search(r"(?m)^(?:abbrev )?[^\s:(){}]+ : tie\.\S+(?: (?:invariant|decreases)-\S+)* → ", text):
         for _ in range(6):
-            new = places_in_bodies(expand(text)) if "KEEP" not in text else text
+            new = places_in_bodies(expand(text))
             if _ == 0:
                 kept = text
             if new == text:
