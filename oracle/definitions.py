@@ -12,8 +12,8 @@ CALL_LIST = "oracle/target/release/call-list"
 
 # the file of proofs that has `prints`, up to the line that stands behind it; and the crates beneath
 PRINTS = {
-    "rules": ("Figures", "-- the writer after a heartbeat 4..6", ["laws", "coherent_set", "guids"]),
-    "source_model": ("Worked", "-- document 01's list", ["laws", "coherent_set", "guids", "rules"]),
+    "rules": ("Figures", "-- the writer after a heartbeat 4..6", ["laws", "refusals", "coherent_set", "guids"]),
+    "source_model": ("Worked", "-- document 01's list", ["laws", "refusals", "coherent_set", "guids", "rules"]),
 }
 
 
@@ -22,7 +22,7 @@ def whole(n):
 
 
 def optional(n, term):
-    return "none" if n is None else f"(some {term(n)})"
+    return "None" if n is None else f"(Some {term(n)})"
 
 
 def text(n):

@@ -3,7 +3,7 @@ use Prim.Native.Nat.{ℕ, zero, suc, ◌+◌, ◌-◌, ◌^◌, ◌≤◌, ◌<�
 use mathlib.Core.Path.{◌≡◌, refl, ap, ◌∙◌, sym}
 use mathlib.Core.Bool.{true, false, cond}
 use mathlib.Core.List.{List, [], ◌∷◌}
-use mathlib.Core.Option.{Option, none, some}
+use Rattle.std.specs.Prelude.{Option, None, Some}
 use native.Mathlib.Omega.{arith}
 use borrow.Author.Tests.{ltb-true, ltb-false, leb-true, leb-false, eqb-true, eqb-false}
 use lib.Dec.{eqb, ltb, leb}
@@ -47,17 +47,17 @@ sum_fields (b ∷ l) = (elim (eqb b 32)
 -- ---- what is read of n bytes is bad where they are more than m
 
 record Short {A : Type 0} (n m : ℕ) (r : Option A) : Type 0 where
-  bad : m < n → r ≡ none
+  bad : m < n → r ≡ None
 
-good : {A : Type 0} (a : A) → Short 0 0 (some a)
+good : {A : Type 0} (a : A) → Short 0 0 (Some a)
 good a = record { bad = λ h. absurd (omega arith) }
 
-both : {A B : Type 0} (n m k j : ℕ) (f : Option (A → B)) (r : Option A) → (m < n → f ≡ none) → (j < k → r ≡ none) → m + j < n + k → f ⊛ r ≡ none
+both : {A B : Type 0} (n m k j : ℕ) (f : Option (A → B)) (r : Option A) → (m < n → f ≡ None) → (j < k → r ≡ None) → m + j < n + k → f ⊛ r ≡ None
 unfolding ◌⊛◌
-both n m k j none r p q h = refl
-both n m k j (some f) none p q h = refl
-both n m k j (some f) (some a) p q h = (elim (ltb m n)
-    as (λ t. ltb m n ≡ t → some (f a) ≡ none) [
+both n m k j None r p q h = refl
+both n m k j (Some f) None p q h = refl
+both n m k j (Some f) (Some a) p q h = (elim (ltb m n)
+    as (λ t. ltb m n ≡ t → Some (f a) ≡ None) [
       | true ↦ λ e. none_some f (sym (p (ltb-true m n e)))
       | false ↦ λ e. none_some a (sym (q (omega (arith, ltb-false m n e, h))))
     ]) refl
@@ -68,11 +68,11 @@ p & q = record { bad = both _ _ _ _ _ _ p.bad q.bad }
 
 -- ---- the fields
 
-dash_long : {A : Type 0} (r : Option A) (s : List ℕ) → 1 < length s → r ≡ none → optional r s ≡ none
+dash_long : {A : Type 0} (r : Option A) (s : List ℕ) → 1 < length s → r ≡ None → optional r s ≡ None
 unfolding optional only ◌⊛◌
 dash_long r [] h e = absurd (omega arith)
 dash_long r (b ∷ []) h e = absurd (omega arith)
-dash_long r (b ∷ c ∷ s) h e = ap (λ r. some (λ a. some a) ⊛ r) e
+dash_long r (b ∷ c ∷ s) h e = ap (λ r. Some (λ a. Some a) ⊛ r) e
 
 optional_short : {A : Type 0} (r : Option A) (s : List ℕ) → Short (length s) 21 r → Short (length s) 21 (optional r s)
 optional_short r s p = record { bad = λ h. dash_long r s (omega arith) (p.bad h) }
@@ -96,7 +96,7 @@ module _ (l : List ℕ) where
 
   guid_short : (k : ℕ) → Short (length (field_at k l)) 21 (guid k l)
   unfolding guid ◌⊛◌
-  guid_short k = record { bad = λ h. ap (λ r. some (λ n. guid_of n) ⊛ r) ((byte_short k).bad h) }
+  guid_short k = record { bad = λ h. ap (λ r. Some (λ n. guid_of n) ⊛ r) ((byte_short k).bad h) }
 
   number_short : (k : ℕ) → Short (length (field_at k l)) 21 (number k l)
   unfolding number
@@ -114,27 +114,27 @@ module _ (l : List ℕ) where
 
   module _ (z : length (field_at 0 l) ≤ 1) (h : 256 ≤ length l) where
     sized_long : {A : Type 0} {k j : ℕ} {r : Option A} (n : ℕ) → Short k j r
-        → (sum 0 n (fields_of l) ≡ suc (length l) → j < k) → sized n l r ≡ none
+        → (sum 0 n (fields_of l) ≡ suc (length l) → j < k) → sized n l r ≡ None
     unfolding sized
     sized_long {r = r} n p f = (elim (eqb (length (fields_of l)) n)
-        as (λ t. eqb (length (fields_of l)) n ≡ t → cond t r none ≡ none) [
+        as (λ t. eqb (length (fields_of l)) n ≡ t → cond t r None ≡ None) [
           | true ↦ λ e. p.bad (f (ap (λ m. sum 0 m (fields_of l)) (sym (eqb-true (length (fields_of l)) n e)) ∙ sum_fields l))
           | false ↦ λ e. refl
         ]) refl
 
-    start_long : start_line l ≡ none
+    start_long : start_line l ≡ None
     unfolding start_line sum field_at
     start_long = sized_long 2 (good _ & long_short 1) (λ e. omega arith)
 
-    counted_long : counted_line l ≡ none
+    counted_long : counted_line l ≡ None
     unfolding counted_line pair_in sum field_at
     counted_long = sized_long 4 (good _ & (good _ & guid_short 1 & guid_short 2 & byte_short 3)) (λ e. omega arith)
 
-    digest_long : digest_line l ≡ none
+    digest_long : digest_line l ≡ None
     unfolding digest_line sum field_at
     digest_long = sized_long 3 (good _ & guid_short 1 & word_short 2) (λ e. omega arith)
 
-    sample_long : sample_line l ≡ none
+    sample_long : sample_line l ≡ None
     unfolding sample_line offer_line sum field_at
     sample_long =
         sized_long 9
@@ -142,7 +142,7 @@ module _ (l : List ℕ) where
         & (good _ & word_short 7) & long_short 8)
         (λ e. omega arith)
 
-    end_long : end_line l ≡ none
+    end_long : end_line l ≡ None
     unfolding end_line offer_line sum field_at
     end_long =
         sized_long 10
@@ -150,22 +150,22 @@ module _ (l : List ℕ) where
         & (good _ & number_if_short 7 & number_if_short 8) & long_short 9)
         (λ e. omega arith)
 
-    heartbeat_long : heartbeat_line l ≡ none
+    heartbeat_long : heartbeat_line l ≡ None
     unfolding heartbeat_line sum field_at
     heartbeat_long =
         sized_long 8
         (good _ & guid_short 1 & guid_short 2 & number_short 3 & number_short 4 & number_short 5 & word_if_short 6 & word_if_short 7)
         (λ e. omega arith)
 
-    gap_long : gap_line l ≡ none
+    gap_long : gap_line l ≡ None
     unfolding gap_line sum field_at
     gap_long = sized_long 5 (good _ & guid_short 1 & guid_short 2 & byte_short 3 & number_short 4) (λ e. omega arith)
 
-    release_long : release_line l ≡ none
+    release_long : release_line l ≡ None
     unfolding release_line sum field_at
     release_long = sized_long 2 (good _ & long_short 1) (λ e. omega arith)
 
-    letter_long : (c : ℕ) → line_by c l ≡ none
+    letter_long : (c : ℕ) → line_by c l ≡ None
     unfolding line_by
     letter_long c =
         neither (eqb c 84) start_long (neither (eqb c 86) counted_long (neither (eqb c 68) digest_long (neither (eqb c 83) sample_long
@@ -180,10 +180,10 @@ letter_one [] h = omega arith
 letter_one (b ∷ []) h = omega arith
 letter_one (b ∷ c ∷ f) h = absurd (h refl)
 
-pub long_bad : (l : List ℕ) → 256 ≤ length l → line_of l ≡ none
+pub long_bad : (l : List ℕ) → 256 ≤ length l → line_of l ≡ None
 unfolding line_of line_by
 long_bad l h = (elim (eqb (only (field_at 0 l)) 0)
-    as (λ t. eqb (only (field_at 0 l)) 0 ≡ t → line_by (only (field_at 0 l)) l ≡ none) [
+    as (λ t. eqb (only (field_at 0 l)) 0 ≡ t → line_by (only (field_at 0 l)) l ≡ None) [
       | true ↦ λ e. ap (λ c. line_by c l) (eqb-true (only (field_at 0 l)) 0 e)
       | false ↦ λ e. letter_long l (letter_one (field_at 0 l) (eqb-false (only (field_at 0 l)) 0 e)) h (only (field_at 0 l))
     ]) refl

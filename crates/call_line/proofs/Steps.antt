@@ -4,7 +4,7 @@ use mathlib.Core.Path.{◌≡◌, refl, sym, ap, ◌∙◌, subst}
 use mathlib.Core.Logic.{inl, inr, ⊎_elim}
 use mathlib.Core.Bool.{Bool, true, false, cond, not, true≢false, ◌&&◌, ◌||◌}
 use mathlib.Core.List.{List, [], ◌∷◌}
-use mathlib.Core.Option.{Option, none, some}
+use Rattle.std.specs.Prelude.{Option, None, Some}
 use native.Mathlib.Numerals.{add-one}
 use native.Mathlib.Omega.{arith}
 use borrow.Author.Tests.{le-leb, lt-leb, leb-true, leb-false, eqb-true, eqb-false, eq-eqb, ne_eqb}
@@ -173,30 +173,30 @@ module _ (nl : Bool) (s : List ℕ) (start : ℕ) where
 
   -- ---- what is read
 
-  module _ {A B : Type 0} (r : Option (A → B)) (g : A → B) (k e : ℕ) (d : List ℕ → Option A) (n : d [] ≡ none) (m : length s < 2 ^ 64 - 1)
+  module _ {A B : Type 0} (r : Option (A → B)) (g : A → B) (k e : ℕ) (d : List ℕ → Option A) (n : d [] ≡ None) (m : length s < 2 ^ 64 - 1)
       (z v : A) (e' : ℕ) (p : ◌≡◌ {A = A × ℕ} (v, e') (found_or z (field_after d nl e s))) where
-    bad_next : field_after d nl e s ≡ none → r ⊛ d (field_at k l) ≡ none → Reads nl s start (r ⊛ d (field_at k l)) (g v) (suc k) e'
+    bad_next : field_after d nl e s ≡ None → r ⊛ d (field_at k l) ≡ None → Reads nl s start (r ⊛ d (field_at k l)) (g v) (suc k) e'
     unfolding found_or
     bad_next q h = record { so = inl (ap (λ w. w.1) (p ∙ ap (λ o. found_or z o) q), h) }
 
-    after_bad : e ≡ 2 ^ 64 - 1 → r ≡ none → Reads nl s start (r ⊛ d (field_at k l)) (g v) (suc k) e'
+    after_bad : e ≡ 2 ^ 64 - 1 → r ≡ None → Reads nl s start (r ⊛ d (field_at k l)) (g v) (suc k) e'
     unfolding field_after ◌⊛◌
     after_bad q h = bad_next (rw (get_past s e (omega (arith, q, m)))) (rw h)
 
-    no_space : r ≡ some g → At nl s start k e → (get_or s e 0 ≡ 32 → ⊥) → Reads nl s start (r ⊛ d (field_at k l)) (g v) (suc k) e'
+    no_space : r ≡ Some g → At nl s start k e → (get_or s e 0 ≡ 32 → ⊥) → Reads nl s start (r ⊛ d (field_at k l)) (g v) (suc k) e'
     unfolding field_after ◌⊛◌
     no_space h a q = bad_next (rw (ne_eqb (get_or s e 0) 32 q)) (rw (h, no_field k e a q, n))
 
-    module _ (h : r ≡ some g) (a : At nl s start k e) (q : get_or s e 0 ≡ 32) where
+    module _ (h : r ≡ Some g) (a : At nl s start k e) (q : get_or s e 0 ≡ 32) where
       found : (o : Option A) → d (field_in nl (drop (e + 1) s)) ≡ o → Reads nl s start (r ⊛ d (field_at k l)) (g v) (suc k) e'
       unfolding field_after field_from ending found_or ◌⊛◌
-      found none x = bad_next (rw (eq-eqb (get_or s e 0) 32 q, x)) (rw (h, field_is k e a q, x))
-      found (some w) x =
+      found None x = bad_next (rw (eq-eqb (get_or s e 0) 32 q, x)) (rw (h, field_is k e a q, x))
+      found (Some w) x =
           let c : ◌≡◌ {A = A × ℕ} (v, e') (w, e + 1 + length (field_in nl (drop (e + 1) s))) = p ∙ rw (eq-eqb (get_or s e 0) 32 q, x) in
           record {
             so =
                 inr (
-                  rw (h, field_is k e a q, x) (ap (λ (y : A × ℕ). some (g y.0)) (sym c)),
+                  rw (h, field_is k e a q, x) (ap (λ (y : A × ℕ). Some (g y.0)) (sym c)),
                   subst (λ n. At nl s start (suc k) n) (sym (ap (λ (y : A × ℕ). y.1) c)) (one_more k e a q),
                 );
           }
@@ -216,32 +216,32 @@ module _ (nl : Bool) (s : List ℕ) (start : ℕ) where
   pub reads_as : {A : Type 0} {r r' : Option A} {a : A} {k e : ℕ} → r ≡ r' → Reads nl s start r a k e → Reads nl s start r' a k e
   reads_as {a = a} {k} {e} q c = subst (λ x. Reads nl s start x a k e) q c
 
-  pub reads_by : {A B : Type 0} {r : Option A} {a : A} {k e : ℕ} (p : A → B) → Reads nl s start r a k e → Reads nl s start (some p ⊛ r) (p a) k e
+  pub reads_by : {A B : Type 0} {r : Option A} {a : A} {k e : ℕ} (p : A → B) → Reads nl s start r a k e → Reads nl s start (Some p ⊛ r) (p a) k e
   unfolding ◌⊛◌
   reads_by p c = record { so = ⊎_elim (λ b. inl (b.0, rw b.1)) (λ b. inr (rw b.0, b.1)) c.so }
 
   -- ---- the last field
 
-  bad_sized : {A : Type 0} (n : ℕ) (r : Option A) → r ≡ none → none ≡ sized n l r
+  bad_sized : {A : Type 0} (n : ℕ) (r : Option A) → r ≡ None → None ≡ sized n l r
   unfolding sized
   bad_sized n r q = sym (neither (eqb (length fs) n) q refl)
 
-  all_read : {A : Type 0} (n e : ℕ) → At nl s start n e → (get_or s e 0 ≡ 32 → ⊥) → (r : Option A) (a : A) → r ≡ some a
-      → (some a ≡ sized n l r) × (e ≡ line_end nl start s)
+  all_read : {A : Type 0} (n e : ℕ) → At nl s start n e → (get_or s e 0 ≡ 32 → ⊥) → (r : Option A) (a : A) → r ≡ Some a
+      → (Some a ≡ sized n l r) × (e ≡ line_end nl start s)
   unfolding sized
   all_read n e a q r x p =
       let z = ap (λ m. length m) (a.rest ∙ none_more e q) in
       let y = ap (λ m. length m) (line_stop nl (drop e s) a.stop (λ w. q (get_drop s e 0 ∙ w))) in
       (rw (eq-eqb (length fs) n (omega (arith, z, length-drop n fs, a.few)), p), omega (arith, y, a.line))
 
-  more_left : {A : Type 0} (n e : ℕ) → At nl s start n e → get_or s e 0 ≡ 32 → (r : Option A) → none ≡ sized n l r
+  more_left : {A : Type 0} (n e : ℕ) → At nl s start n e → get_or s e 0 ≡ 32 → (r : Option A) → None ≡ sized n l r
   unfolding sized
   more_left n e a q r =
       let z = ap (λ m. length m) (rest_is n e a q) in
       rw (ne_eqb (length fs) n (λ w. omega (arith, w, z, length-drop n fs)))
 
   module _ {A : Type 0} {r : Option A} {a : A} {n e : ℕ} (m : length s < 2 ^ 64 - 1) (c : Reads nl s start r a n e) where
-    pub last_is : is_last e s ≡ true → (some a ≡ sized n l r) × (e ≡ line_end nl start s)
+    pub last_is : is_last e s ≡ true → (Some a ≡ sized n l r) × (e ≡ line_end nl start s)
     unfolding is_last
     last_is h =
         ⊎_elim
@@ -249,7 +249,7 @@ module _ (nl : Bool) (s : List ℕ) (start : ℕ) where
         (λ b. all_read n e b.1 (λ q. true≢false (sym h ∙ and_not (leb e (length s)) (eqb (get_or s e 0) 32) (eq-eqb (get_or s e 0) 32 q))) r a b.0)
         c.so
 
-    pub last_not : is_last e s ≡ false → none ≡ sized n l r
+    pub last_not : is_last e s ≡ false → None ≡ sized n l r
     unfolding is_last
     last_not h =
         ⊎_elim
@@ -325,18 +325,18 @@ module _ (nl : Bool) (s : List ℕ) (at : ℕ) where
     is_letter = ap (λ c. line_by c (line_in nl (drop at s))) (sym (letter_only parts.0 goes_on ∙ parts.1))
 
 -- a line of one field
-one_none : (l : List ℕ) → length (fields_of l) ≡ 1 → (c : ℕ) → line_by c l ≡ none
+one_none : (l : List ℕ) → length (fields_of l) ≡ 1 → (c : ℕ) → line_by c l ≡ None
 unfolding line_by start_line counted_line digest_line sample_line end_line offer_line heartbeat_line gap_line release_line sized
 one_none l e c =
     neither (eqb c 84) (rw e) (neither (eqb c 86) (rw e) (neither (eqb c 68) (rw e) (neither (eqb c 83) (rw e)
     (neither (eqb c 69) (rw e) (neither (eqb c 72) (rw e) (neither (eqb c 71) (rw e) (neither (eqb c 82) (rw e) refl)))))))
 
-zero_none : (l : List ℕ) → only (field_at 0 l) ≡ 0 → line_of l ≡ none
+zero_none : (l : List ℕ) → only (field_at 0 l) ≡ 0 → line_of l ≡ None
 unfolding line_of line_by
 zero_none l e = ap (λ c. line_by c l) e
 
 module _ (nl : Bool) (s : List ℕ) (at : ℕ) where
-  no_second : (get_or s (at + 1) 0 ≡ 32 → ⊥) → (f : List ℕ) → field_in nl (drop at s) ≡ f → line_of (line_in nl (drop at s)) ≡ none
+  no_second : (get_or s (at + 1) 0 ≡ 32 → ⊥) → (f : List ℕ) → field_in nl (drop at s) ≡ f → line_of (line_in nl (drop at s)) ≡ None
   unfolding only line_of
   no_second q [] e = zero_none (line_in nl (drop at s)) (ap (λ f. only f) (first_field nl s at ∙ e))
   no_second q (b ∷ []) e =
@@ -348,23 +348,23 @@ module _ (nl : Bool) (s : List ℕ) (at : ℕ) where
   no_second q (b ∷ c ∷ f) e = zero_none (line_in nl (drop at s)) (ap (λ f. only f) (first_field nl s at ∙ e))
 
   module _ (x : ℕ) (e : x ≡ letter_at at s) (t : x ≡ 84 → ⊥) (v : x ≡ 86 → ⊥) (d : x ≡ 68 → ⊥) (p : x ≡ 83 → ⊥) (n : x ≡ 69 → ⊥) (h : x ≡ 72 → ⊥) (g : x ≡ 71 → ⊥) (r : x ≡ 82 → ⊥) where
-    other : (c : ℕ) → c ≡ x → line_by c (line_in nl (drop at s)) ≡ none
+    other : (c : ℕ) → c ≡ x → line_by c (line_in nl (drop at s)) ≡ None
     unfolding line_by
     other c q = rw q (simp (ne_eqb x 84 t, ne_eqb x 86 v, ne_eqb x 68 d, ne_eqb x 83 p, ne_eqb x 69 n, ne_eqb x 72 h, ne_eqb x 71 g, ne_eqb x 82 r))
 
-    with_space : get_or s (at + 1) 0 ≡ 32 → x ≡ get_or s at 0 → line_of (line_in nl (drop at s)) ≡ none
+    with_space : get_or s (at + 1) 0 ≡ 32 → x ≡ get_or s at 0 → line_of (line_in nl (drop at s)) ≡ None
     unfolding line_of only
     with_space q y =
-        (elim (eqb (get_or s at 0) 32 || ends nl (get_or s at 0)) as (λ b. (eqb (get_or s at 0) 32 || ends nl (get_or s at 0)) ≡ b → line_of (line_in nl (drop at s)) ≡ none) [
+        (elim (eqb (get_or s at 0) 32 || ends nl (get_or s at 0)) as (λ b. (eqb (get_or s at 0) 32 || ends nl (get_or s at 0)) ≡ b → line_of (line_in nl (drop at s)) ≡ None) [
           | true ↦ λ b. zero_none (line_in nl (drop at s)) (ap (λ f. only f) (first_field nl s at ∙ in_stop nl s at (omega (arith, there nl s at q)) b))
           | false ↦ λ b. other (only (field_at 0 (line_in nl (drop at s)))) (letter_only nl s at q b ∙ sym y)
         ]) refl
 
-    pub no_letter : none ≡ line_of (line_in nl (drop at s))
+    pub no_letter : None ≡ line_of (line_in nl (drop at s))
     unfolding letter_at
     no_letter =
         sym
-        ((elim (eqb (get_or s (at + 1) 0) 32) as (λ b. eqb (get_or s (at + 1) 0) 32 ≡ b → x ≡ cond b (get_or s at 0) 0 → line_of (line_in nl (drop at s)) ≡ none) [
+        ((elim (eqb (get_or s (at + 1) 0) 32) as (λ b. eqb (get_or s (at + 1) 0) 32 ≡ b → x ≡ cond b (get_or s at 0) 0 → line_of (line_in nl (drop at s)) ≡ None) [
           | true ↦ λ b y. with_space (eqb-true (get_or s (at + 1) 0) 32 b) y
           | false ↦ λ b y. no_second (eqb-false (get_or s (at + 1) 0) 32 b) (field_in nl (drop at s)) refl
         ]) refl e)

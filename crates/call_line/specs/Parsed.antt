@@ -1,11 +1,10 @@
 -- What a parsed line stands for.
 use Rattle.std.specs.Prelude.{ℕ}
-use Rattle.std.proofs.Math.Option.{Option, none, some}
+use Rattle.std.specs.Prelude.{Option, None, Some}
 use Rattle.rules.specs.Offer as O
 use Rattle.rules.specs.Sets.{Pair}
 use Rattle.rules.specs.Commit.{DigestRow}
-use Rattle.store.specs.Records.{optional_as, what_as}
-use Rattle.offers.specs.Calls.{digest_as}
+use Rattle.store.specs.Records.{what_as}
 use Rattle.call_line.specs.Line.{Line, starts, counts, digests, offers, heartbeats, gaps, releases, guid_of}
 use Rattle.call_line.specs.declared.line.LinePair.{LinePair}
 use Rattle.call_line.specs.declared.line.LineDigest.{LineDigest}
@@ -27,7 +26,7 @@ offer_of o = record {
   writer = guid_of o.writer;
   reader = o.reader;
   number = o.number;
-  set = optional_as o.set;
+  set = o.set;
   digest = o.digest;
   what = what_as o.what;
   time = o.time;
@@ -40,19 +39,19 @@ heartbeat_of h = record {
   first = h.first;
   last = h.last;
   current = h.current;
-  digest = digest_as h.digest;
-  secure = digest_as h.secure;
+  digest = h.digest;
+  secure = h.secure;
 }
 
 unfoldable pub gap_of : LineGap → O.Gap
 gap_of g = record { group = guid_of g.group; writer = guid_of g.writer; reader = g.reader; number = g.number }
 
 unfoldable pub parsed_as : Parsed → Option Line
-parsed_as (P.Timeout t) = some (starts t)
-parsed_as (P.Counted p) = some (counts (pair_of p))
-parsed_as (P.Digest d) = some (digests (digest_row_of d))
-parsed_as (P.Offer o) = some (offers (offer_of o))
-parsed_as (P.Heartbeat h) = some (heartbeats (heartbeat_of h))
-parsed_as (P.Gap g) = some (gaps (gap_of g))
-parsed_as (P.Release t) = some (releases t)
-parsed_as P.Bad = none
+parsed_as (P.Timeout t) = Some (starts t)
+parsed_as (P.Counted p) = Some (counts (pair_of p))
+parsed_as (P.Digest d) = Some (digests (digest_row_of d))
+parsed_as (P.Offer o) = Some (offers (offer_of o))
+parsed_as (P.Heartbeat h) = Some (heartbeats (heartbeat_of h))
+parsed_as (P.Gap g) = Some (gaps (gap_of g))
+parsed_as (P.Release t) = Some (releases t)
+parsed_as P.Bad = None

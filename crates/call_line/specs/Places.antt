@@ -1,9 +1,8 @@
 -- How far a line of a text is read, for the steps of `parse_at`.
 use Rattle.std.specs.Prelude.{ℕ, ◌+◌, ◌-◌, ◌^◌, ◌≤◌, ◌≡◌, ◌⊎◌, Bool, cond, List, [], ◌∷◌, eqb, ℤ, length, drop}
-use Rattle.std.proofs.Math.Option.{Option, none, some}
+use Rattle.std.specs.Prelude.{Option, None, Some}
 use Rattle.guids.specs.Guid.{Guid}
 use Rattle.rules.specs.Entry.{What}
-use Rattle.store.specs.Records.{optional_as}
 use Rattle.fields.specs.Fields.{fields_of, byte, word, number}
 use Rattle.fields.specs.Cursor.{line_in, line_end, field_in}
 use Rattle.call_line.specs.Line.{Line, offers, ◌⊛◌, guid_of, guid, number_if}
@@ -24,7 +23,7 @@ pub record At (nl : Bool) (s : List ℕ) (start k e : ℕ) : Type 0 where
 
 -- r of them is a, or one was bad
 pub record Reads {A : Type 0} (nl : Bool) (s : List ℕ) (start : ℕ) (r : Option A) (a : A) (k e : ℕ) : Type 0 where
-  pub so : ((e ≡ 2 ^ 64 - 1) × (r ≡ none)) ⊎ ((r ≡ some a) × At nl s start k e)
+  pub so : ((e ≡ 2 ^ 64 - 1) × (r ≡ None)) ⊎ ((r ≡ Some a) × At nl s start k e)
 
 -- an offer by its fields, what it holds and its time
 abbrev pub offer_by : Guid → Guid → ℕ → ℤ → Option ℤ → ℕ → What ℕ → ℕ → Line
@@ -34,8 +33,8 @@ offer_by g w r m s d x u = offers (record { group = g; writer = w; reader = r; n
 abbrev pub Offering : Bool → List ℕ → ℕ → OfferAt → Type 0
 Offering nl s start o =
     Reads {A = What ℕ → ℕ → Line} nl s start
-    (some (λ g w r m s d x u. offer_by g w r m s d x u)
+    (Some (λ g w r m s d x u. offer_by g w r m s d x u)
     ⊛ guid 1 (line_in nl (drop start s)) ⊛ guid 2 (line_in nl (drop start s)) ⊛ byte 3 (line_in nl (drop start s))
     ⊛ number 4 (line_in nl (drop start s)) ⊛ number_if 5 (line_in nl (drop start s)) ⊛ word 6 (line_in nl (drop start s)))
-    (λ x u. offer_by (guid_of o.group) (guid_of o.writer) o.reader o.number (optional_as o.set) o.digest x u)
+    (λ x u. offer_by (guid_of o.group) (guid_of o.writer) o.reader o.number o.set o.digest x u)
     7 o.end

@@ -6,8 +6,8 @@ ghost use Rattle.call_line.specs.Line.{guid_of};
 ghost use Rattle.call_line.specs.Parsed.{pair_of, digest_row_of, offer_of, heartbeat_of, gap_of};
 
 use group_view::view::{DigestRow, Pair};
-use offers::call::{Digest, Gap, Heartbeat, Offer};
-use store::entry::{Optional, What};
+use offers::call::{Gap, Heartbeat, Offer};
+use store::entry::What;
 
 #[derive(Clone, Copy)]
 pub struct LinePair {
@@ -28,7 +28,7 @@ pub struct LineOffer {
     pub writer: u8,
     pub reader: u8,
     pub number: i64,
-    pub set: Optional,
+    pub set: Option<i64>,
     pub digest: u32,
     pub what: What,
     pub time: u64,
@@ -41,8 +41,8 @@ pub struct LineHeartbeat {
     pub first: i64,
     pub last: i64,
     pub current: i64,
-    pub digest: Digest,
-    pub secure: Digest,
+    pub digest: Option<u32>,
+    pub secure: Option<u32>,
 }
 
 #[derive(Clone, Copy)]

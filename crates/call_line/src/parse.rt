@@ -1,6 +1,6 @@
 // A line of the call list, read in one pass.
 ghost use Rattle.std.specs.Prelude.{◌+◌, ◌≡◌};
-ghost use Rattle.std.proofs.Math.Option.{none};
+ghost use Rattle.std.specs.Prelude.{None};
 ghost use Rattle.call_line.specs.Line.{start_line, counted_line, digest_line, sample_line, end_line, heartbeat_line, gap_line, release_line, line_of, line_from};
 ghost use Rattle.call_line.specs.Parsed.{parsed_as};
 ghost use Rattle.call_line.specs.Places.{Offering, At};
@@ -10,7 +10,7 @@ use crate::line::{LineDigest, LineGap, LineHeartbeat, LineOffer, LinePair};
 use fields::cursor::{
     byte_after, is_last, letter_at, line_end, long_after, number_after, word_after,
 };
-use store::entry::{Optional, SetEnd, What};
+use store::entry::{SetEnd, What};
 
 #[derive(Clone, Copy)]
 pub enum Parsed {
@@ -38,7 +38,7 @@ struct OfferAt {
     writer: u8,
     reader: u8,
     number: i64,
-    set: Optional,
+    set: Option<i64>,
     digest: u32,
     end: usize,
 }
@@ -71,7 +71,7 @@ pub fn parse_at(text: &[u8], at: usize, newlines: bool) -> LineAt
 }
 
 fn bad_line(text: &[u8], at: usize, newlines: bool) -> LineAt
-    ensures { (parsed_as result.parsed, result.end) ≡ line_from (λ l. none) newlines at text.now }
+    ensures { (parsed_as result.parsed, result.end) ≡ line_from (λ l. None) newlines at text.now }
 {
     let end = line_end(text, at, newlines);
     LineAt {

@@ -4,7 +4,7 @@ use Prim.Native.Nat.{ℕ, ◌+◌, ◌*◌, ◌≤◌}
 use mathlib.Core.Path.{◌≡◌, refl, sym, ap, ◌∙◌, subst}
 use mathlib.Core.Bool.{true, false, not, cond}
 use mathlib.Core.List.{List, ◌∷◌, ◌++◌, map}
-use mathlib.Core.Option.{some}
+use Rattle.std.specs.Prelude.{Some}
 use native.Mathlib.Omega.{arith}
 use lib.ListN.{length, take, drop, length-append, length-map}
 use lib.Seq.{take_at}
@@ -122,7 +122,7 @@ ran_release : (l : List ℕ) {a : Answer ℕ} {now r : ℕ} {s store view store'
     → length l ≡ 256 → ◌≡◌ {A = Told} (a, state_of store', places) (release_noted view (state_of store) now l)
     → Kept a store store' → Said 0 s r out out' → length s ≤ length out
     → ((c : Calls) → Stands c store view → Says (a, state_of store', places) l (release_of c now) → s ≡ release_text (release_of c now).0 (release_of c now).1.counts)
-    → Ran (some (releases now)) r store view out store' view out'
+    → Ran (Some (releases now)) r store view out store' view out'
 unfolding run_call
 ran_release l {now = now} {store = store} {store' = store'} j e k x h g =
     ran_said x h
@@ -140,7 +140,7 @@ wrote_within l store view now j k e =
 pub ran_released : (l : List ℕ) {n now r : ℕ} {k : Counts} {store view store' places out out' : List ℕ}
     → length l ≡ 256 → length places ≡ 256 → ◌≡◌ {A = Told} (answered n, state_of store', places) (release_noted view (state_of store) now l)
     → k ≡ (state_of store').counts → Said 0 (111 ∷ 117 ∷ 116 ∷ places_text (take n places) ++ counts_text k) r out out' → length out ≡ 4096
-    → Ran (some (releases now)) r store view out store' view out'
+    → Ran (Some (releases now)) r store view out store' view out'
 unfolding Kept
 ran_released l {n} {now} {r} {k} {store} {view} {store'} {places} j m e q x h =
     let text : (c : Calls) → Stands c store view → ((111 ∷ 117 ∷ 116 ∷ places_text (take n places) ++ counts_text k) ≡ release_text (release_of c now).0 k) × (length (places_text (take n places)) ≤ 15 * 256) =
@@ -156,6 +156,6 @@ refusal_text n (answered r) c e = let z : ◌≡◌ {A = ℕ} 0 1 = cc in absurd
 pub ran_refused : (l : List ℕ) {n now r : ℕ} {store view store' places out out' : List ℕ}
     → length l ≡ 256 → ◌≡◌ {A = Told} (refused n, state_of store', places) (release_noted view (state_of store) now l)
     → Kept {X = ℕ} (refused n) store store' → Said 0 (refused_text n) r out out' → length out ≡ 4096
-    → Ran (some (releases now)) r store view out store' view out'
+    → Ran (Some (releases now)) r store view out store' view out'
 ran_refused l {n} {now} j e z x h =
     ran_release l j e z x (omega (arith, refused_long n, h)) (λ c s f. refusal_text n (release_of c now).0 (release_of c now).1.counts (ap (λ y. y.0) f))

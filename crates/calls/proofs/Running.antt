@@ -3,7 +3,7 @@ use Prim.{Unit, tt}
 use Prim.Native.Nat.{ℕ, ◌≤◌}
 use mathlib.Core.Path.{◌≡◌, refl, sym, ap, ◌∙◌, subst}
 use mathlib.Core.List.{List}
-use mathlib.Core.Option.{Option, none, some}
+use Rattle.std.specs.Prelude.{Option, None, Some}
 use native.Mathlib.Omega.{arith}
 use lib.ListN.{length}
 use Rattle.laws.specs.Answer.{Answer, refused, answered, Kept}
@@ -52,16 +52,16 @@ ran_said {l} {r} {s} {store} {view} {out} x h f k g =
       text = λ c t. x.is ∙ ap (λ (k : List ℕ). put out 0 k) (g c t);
     }
 
-pub ran_bad : {r : ℕ} {store view out out' : List ℕ} → Said 0 bad r out out' → length out ≡ 4096 → Ran none r store view out store view out'
+pub ran_bad : {r : ℕ} {store view out out' : List ℕ} → Said 0 bad r out out' → length out ≡ 4096 → Ran None r store view out store view out'
 ran_bad x h = ran_said x (omega arith) (λ c s. s) (λ c s. (refl, refl)) (λ c s. refl)
 
 -- a call of the history, which leaves the view
 pub ran_history : {A : Type 0} (l : Line) (f : State ℕ → Answer A × State ℕ) (text : Answer A → List ℕ)
     → ((c : Calls) → run_call c l ≡ (with_history (f c.history).1 c, text (f c.history).0))
-    → ((c : Calls) (s v s' : List ℕ) → Kept (f c.history).0 s s' → Leaves c (some l) s v s' v)
+    → ((c : Calls) (s v s' : List ℕ) → Kept (f c.history).0 s s' → Leaves c (Some l) s v s' v)
     → {a : Answer A} {r : ℕ} {store view store' out out' : List ℕ}
     → (a, state_of store') ≡ f (state_of store) → Kept a store store' → Said 0 (text a) r out out' → length (text a) ≤ length out
-    → Ran (some l) r store view out store' view out'
+    → Ran (Some l) r store view out store' view out'
 ran_history l f text runs leaves {a} {r} {store} {view} {store'} e k x h =
     ran_said x h
     (λ c s. subst (λ (y : Calls × List ℕ). Stands y.0 store' view) (sym (runs c)) (history_stands (ap (λ y. y.1) e ∙ ap (λ y. (f y).1) s.history) s))
@@ -71,17 +71,17 @@ ran_history l f text runs leaves {a} {r} {store} {view} {store'} e k x h =
 -- the rows
 
 pub ran_start : {t r : ℕ} {store view store' view' out out' : List ℕ}
-    → state_of store' ≡ fresh t → Cleared view' → Said 0 ok r out out' → length out ≡ 4096 → Ran (some (starts t)) r store view out store' view' out'
+    → state_of store' ≡ fresh t → Cleared view' → Said 0 ok r out out' → length out ≡ 4096 → Ran (Some (starts t)) r store view out store' view' out'
 unfolding run_call
 ran_start e v x h = ran_said x (omega arith) (λ c s. afresh_stands _ e v) (λ c s. tt) (λ c s. refl)
 
 pub ran_counted : {p : P.Pair} {r : ℕ} {store view view' out out' : List ℕ}
-    → Noted p view view' → Said 0 ok r out out' → length out ≡ 4096 → Ran (some (counts (pair_as p))) r store view out store view' out'
+    → Noted p view view' → Said 0 ok r out out' → length out ≡ 4096 → Ran (Some (counts (pair_as p))) r store view out store view' out'
 unfolding run_call
 ran_counted n x h = ran_said x (omega arith) (λ c s. counted_stands n s) (λ c s. refl) (λ c s. refl)
 
 pub ran_digest : {d : D.DigestRow} {r : ℕ} {store view view' out out' : List ℕ}
-    → NotedDigest d view view' → Said 0 ok r out out' → length out ≡ 4096 → Ran (some (digests (digest_row_as d))) r store view out store view' out'
+    → NotedDigest d view view' → Said 0 ok r out out' → length out ≡ 4096 → Ran (Some (digests (digest_row_as d))) r store view out store view' out'
 unfolding run_call
 ran_digest n x h = ran_said x (omega arith) (λ c s. digest_stands n s) (λ c s. refl) (λ c s. refl)
 
@@ -92,5 +92,5 @@ ran_line {l} {k} {r} {store} {view} {out} {store'} {view'} {out'} e h = subst (�
 
 -- the line of the records that the call took
 pub ran_as : {A : Type 0} (l : A → Line) {x y : A} {r : ℕ} {store view out store' view' out' : List ℕ}
-    → x ≡ y → Ran (some (l x)) r store view out store' view' out' → Ran (some (l y)) r store view out store' view' out'
-ran_as l e h = ran_line (ap (λ a. some (l a)) e) h
+    → x ≡ y → Ran (Some (l x)) r store view out store' view' out' → Ran (Some (l y)) r store view out store' view' out'
+ran_as l e h = ran_line (ap (λ a. Some (l a)) e) h

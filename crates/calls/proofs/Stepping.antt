@@ -5,7 +5,7 @@ use mathlib.Core.Path.{◌≡◌, refl, ap, ◌∙◌}
 use mathlib.Core.Bool.{false, true≢false}
 use mathlib.Core.List.{List, [], ◌∷◌, ◌++◌}
 use lib.ListN.{replicate, length-replicate}
-use mathlib.Core.Option.{Option, none, some}
+use Rattle.std.specs.Prelude.{Option, None, Some}
 use Rattle.laws.specs.Answer.{Answer, refused, answered}
 use Rattle.rules.specs.State.{Counts, fresh}
 use Rattle.rules.specs.Offer as O
@@ -54,14 +54,14 @@ module _ (c : Calls) where
 
 line_run : (c : Calls) (l : Option Line) (ks : List (R.Call ℕ)) → is_start l ≡ false → R.run (run_if c l).0.history ks ≡ R.run c.history (in_front (call_of c l) ks)
 unfolding R.run run_call stepped with_history
-line_run c none ks h = refl
-line_run c (some (starts t)) ks h = absurd (true≢false h)
-line_run c (some (counts p)) ks h = refl
-line_run c (some (digests d)) ks h = refl
-line_run c (some (offers o)) ks h = ap (λ (y : Calls × List ℕ). R.run y.0.history ks) (offers_step c o)
-line_run c (some (heartbeats b)) ks h = ap (λ (y : Calls × List ℕ). R.run y.0.history ks) (heartbeats_step c b)
-line_run c (some (gaps g)) ks h = ap (λ (y : Calls × List ℕ). R.run y.0.history ks) (gaps_step c g)
-line_run c (some (releases now)) ks h = ap (λ (y : Calls × List ℕ). R.run y.0.history ks) (releases_step c now)
+line_run c None ks h = refl
+line_run c (Some (starts t)) ks h = absurd (true≢false h)
+line_run c (Some (counts p)) ks h = refl
+line_run c (Some (digests d)) ks h = refl
+line_run c (Some (offers o)) ks h = ap (λ (y : Calls × List ℕ). R.run y.0.history ks) (offers_step c o)
+line_run c (Some (heartbeats b)) ks h = ap (λ (y : Calls × List ℕ). R.run y.0.history ks) (heartbeats_step c b)
+line_run c (Some (gaps g)) ks h = ap (λ (y : Calls × List ℕ). R.run y.0.history ks) (gaps_step c g)
+line_run c (Some (releases now)) ks h = ap (λ (y : Calls × List ℕ). R.run y.0.history ks) (releases_step c now)
 
 -- up to the next `T` the history is the run of the calls that the lines make
 pub lines_run : (c : Calls) (ls : List (List ℕ)) → any (λ l. is_start (line_of l)) ls ≡ false → (after c ls).history ≡ R.run c.history (calls_of c ls)
@@ -72,7 +72,7 @@ lines_run c (l ∷ ls) h =
     ∙ line_run c (line_of l) (calls_of (run_line c l).0 ls) (or_left _ _ h)
 
 -- from a `T` on, whatever was before, and from the start of a list
-pub list_run : (c : Calls) (l : List ℕ) (ls : List (List ℕ)) (t : ℕ) → line_of l ≡ some (starts t) → any (λ m. is_start (line_of m)) ls ≡ false
+pub list_run : (c : Calls) (l : List ℕ) (ls : List (List ℕ)) (t : ℕ) → line_of l ≡ Some (starts t) → any (λ m. is_start (line_of m)) ls ≡ false
     → (after c (l ∷ ls)).history ≡ R.run (fresh t) (calls_of (afresh t) ls)
 unfolding after run_line run_call afresh
 list_run c l ls t e h = ap (λ (k : Option Line). (after (run_if c k).0 ls).history) e ∙ lines_run (afresh t) ls h

@@ -1,7 +1,7 @@
 -- What a line does and prints, and a whole list (document 01, "One call list, whole").
 use Prim.{Unit}
 use Rattle.std.specs.Prelude.{ℕ, cond, List, [], ◌∷◌, ◌++◌, eqb}
-use Rattle.std.proofs.Math.Option.{Option, none, some}
+use Rattle.std.specs.Prelude.{Option, None, Some}
 use Rattle.laws.specs.Answer.{Answer, refused, answered}
 use Rattle.decimal.specs.Print.{digits_of}
 use Rattle.rules.specs.Entry.{What, sample, set_end, Entry}
@@ -100,8 +100,8 @@ run_call c (releases now) =
     (with_history r.1 c, release_text r.0 r.1.counts)
 
 abbrev pub run_if : Calls → Option Line → Calls × List ℕ
-run_if c none = (c, bad)
-run_if c (some l) = run_call c l
+run_if c None = (c, bad)
+run_if c (Some l) = run_call c l
 
 unfoldable pub run_line : Calls → List ℕ → Calls × List ℕ
 run_line c l = run_if c (line_of l)

@@ -1,7 +1,7 @@
 -- What the lent words stand for between lines, and a line or a whole text run on them.
 use Prim.{Unit}
 use Rattle.std.specs.Prelude.{ℕ, ◌≤◌, ◌≡◌, Bool, true, false, List, [], ◌∷◌, ◌++◌, length}
-use Rattle.std.proofs.Math.Option.{Option, none, some}
+use Rattle.std.specs.Prelude.{Option, None, Some}
 use Rattle.laws.specs.Answer.{Kept}
 use Rattle.decimal.specs.Print.{put}
 use Rattle.rules.specs.Offer.{offer, heartbeat, gap}
@@ -24,14 +24,14 @@ pub record Stands (c : Calls) (store view : List ℕ) : Type 0 where
 -- the words that a line leaves as they were: a bad line all; `T` none; `V` and `D` the store's; a call the view's, and where it is
 -- refused the store's too
 abbrev pub Leaves : Calls → Option Line → (store view store' view' : List ℕ) → Type 0
-Leaves c none s v s' v' = (s' ≡ s) × (v' ≡ v)
-Leaves c (some (starts t)) s v s' v' = Unit {0}
-Leaves c (some (counts p)) s v s' v' = s' ≡ s
-Leaves c (some (digests d)) s v s' v' = s' ≡ s
-Leaves c (some (offers o)) s v s' v' = Kept (offer c.history o).0 s s' × (v' ≡ v)
-Leaves c (some (heartbeats h)) s v s' v' = Kept (heartbeat c.history h).0 s s' × (v' ≡ v)
-Leaves c (some (gaps g)) s v s' v' = Kept (gap c.history g).0 s s' × (v' ≡ v)
-Leaves c (some (releases now)) s v s' v' = Kept (release c.history (rows_of c) now 256).0 s s' × (v' ≡ v)
+Leaves c None s v s' v' = (s' ≡ s) × (v' ≡ v)
+Leaves c (Some (starts t)) s v s' v' = Unit {0}
+Leaves c (Some (counts p)) s v s' v' = s' ≡ s
+Leaves c (Some (digests d)) s v s' v' = s' ≡ s
+Leaves c (Some (offers o)) s v s' v' = Kept (offer c.history o).0 s s' × (v' ≡ v)
+Leaves c (Some (heartbeats h)) s v s' v' = Kept (heartbeat c.history h).0 s s' × (v' ≡ v)
+Leaves c (Some (gaps g)) s v s' v' = Kept (gap c.history g).0 s s' × (v' ≡ v)
+Leaves c (Some (releases now)) s v s' v' = Kept (release c.history (rows_of c) now 256).0 s s' × (v' ≡ v)
 
 -- the words stand for the calls after the line, those that it leaves unchanged; what it prints fits, and is put at the front of out
 pub record Ran (l : Option Line) (r : ℕ) (store view out store' view' out' : List ℕ) : Type 0 where

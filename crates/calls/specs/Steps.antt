@@ -1,6 +1,6 @@
 -- The lines of a call list as calls of the history (`step` and `run` of group_order).
 use Rattle.std.specs.Prelude.{ℕ, Bool, true, false, List, [], ◌∷◌, replicate}
-use Rattle.std.proofs.Math.Option.{Option, none, some}
+use Rattle.std.specs.Prelude.{Option, None, Some}
 use Rattle.rules.specs.State.{Counts}
 use Rattle.rules.specs.Run as R
 use Rattle.call_line.specs.Line.{Line, starts, counts, digests, offers, heartbeats, gaps, releases, line_of}
@@ -18,28 +18,28 @@ stepped c k = let r = R.step c.history k in (with_history r.1 c, said_text r.0 r
 
 -- the call that a line makes; none of a bad line, `T`, `V` or `D`
 abbrev pub call_of : Calls → Option Line → Option (R.Call ℕ)
-call_of c none = none
-call_of c (some (starts t)) = none
-call_of c (some (counts p)) = none
-call_of c (some (digests d)) = none
-call_of c (some (offers o)) = some (R.offers o)
-call_of c (some (heartbeats h)) = some (R.heartbeats h)
-call_of c (some (gaps g)) = some (R.gaps g)
-call_of c (some (releases now)) = some (R.releases now (rows_of c) (replicate 256 0))
+call_of c None = None
+call_of c (Some (starts t)) = None
+call_of c (Some (counts p)) = None
+call_of c (Some (digests d)) = None
+call_of c (Some (offers o)) = Some (R.offers o)
+call_of c (Some (heartbeats h)) = Some (R.heartbeats h)
+call_of c (Some (gaps g)) = Some (R.gaps g)
+call_of c (Some (releases now)) = Some (R.releases now (rows_of c) (replicate 256 0))
 
 abbrev pub is_start : Option Line → Bool
-is_start none = false
-is_start (some (starts t)) = true
-is_start (some (counts p)) = false
-is_start (some (digests d)) = false
-is_start (some (offers o)) = false
-is_start (some (heartbeats h)) = false
-is_start (some (gaps g)) = false
-is_start (some (releases now)) = false
+is_start None = false
+is_start (Some (starts t)) = true
+is_start (Some (counts p)) = false
+is_start (Some (digests d)) = false
+is_start (Some (offers o)) = false
+is_start (Some (heartbeats h)) = false
+is_start (Some (gaps g)) = false
+is_start (Some (releases now)) = false
 
 abbrev pub in_front : Option (R.Call ℕ) → List (R.Call ℕ) → List (R.Call ℕ)
-in_front none ks = ks
-in_front (some k) ks = k ∷ ks
+in_front None ks = ks
+in_front (Some k) ks = k ∷ ks
 
 -- what lines leave, and the calls that they make
 unfoldable pub after : Calls → List (List ℕ) → Calls

@@ -1,6 +1,6 @@
 // A line of the call list, run.
 ghost use Rattle.std.specs.Prelude.{◌≡◌, length};
-ghost use Rattle.std.proofs.Math.Option.{some, none};
+ghost use Rattle.std.specs.Prelude.{Some, None};
 ghost use Rattle.call_line.specs.Line.{starts, counts, digests, offers, heartbeats, gaps, releases, line_of};
 ghost use Rattle.call_line.specs.Parsed.{pair_of, digest_row_of, offer_of, heartbeat_of, gap_of, parsed_as};
 ghost use Rattle.calls.specs.Runs.{Ran};
@@ -31,7 +31,7 @@ fn run_start(
     timeout: u64,
     out: &mut [u8; 4096],
 ) -> usize
-    ensures { Ran (some (starts timeout)) result store.old view.old out.old store.new view.new out.new }
+    ensures { Ran (Some (starts timeout)) result store.old view.old out.old store.new view.new out.new }
 {
     whole(out);
     let fresh = GroupOrder::new(timeout);
@@ -47,7 +47,7 @@ fn run_counted(
     row: LinePair,
     out: &mut [u8; 4096],
 ) -> usize
-    ensures { Ran (some (counts (pair_of row))) result store.old view.old out.old store.new view.new out.new }
+    ensures { Ran (Some (counts (pair_of row))) result store.old view.old out.old store.new view.new out.new }
 {
     whole(out);
     note_pair(view, row.row());
@@ -60,7 +60,7 @@ fn run_digest(
     row: LineDigest,
     out: &mut [u8; 4096],
 ) -> usize
-    ensures { Ran (some (digests (digest_row_of row))) result store.old view.old out.old store.new view.new out.new }
+    ensures { Ran (Some (digests (digest_row_of row))) result store.old view.old out.old store.new view.new out.new }
 {
     whole(out);
     note_digest(view, row.row());
@@ -73,7 +73,7 @@ fn run_offer(
     o: LineOffer,
     out: &mut [u8; 4096],
 ) -> usize
-    ensures { Ran (some (offers (offer_of o))) result store.old view.old out.old store.new view.new out.new }
+    ensures { Ran (Some (offers (offer_of o))) result store.old view.old out.old store.new view.new out.new }
 {
     whole(out);
     let answer = GroupOrder::offer(store, o.offer());
@@ -86,7 +86,7 @@ fn run_heartbeat(
     h: LineHeartbeat,
     out: &mut [u8; 4096],
 ) -> usize
-    ensures { Ran (some (heartbeats (heartbeat_of h))) result store.old view.old out.old store.new view.new out.new }
+    ensures { Ran (Some (heartbeats (heartbeat_of h))) result store.old view.old out.old store.new view.new out.new }
 {
     whole(out);
     let answer = GroupOrder::heartbeat(store, h.heartbeat());
@@ -99,7 +99,7 @@ fn run_gap(
     g: LineGap,
     out: &mut [u8; 4096],
 ) -> usize
-    ensures { Ran (some (gaps (gap_of g))) result store.old view.old out.old store.new view.new out.new }
+    ensures { Ran (Some (gaps (gap_of g))) result store.old view.old out.old store.new view.new out.new }
 {
     whole(out);
     let answer = GroupOrder::gap(store, g.gap());
@@ -112,7 +112,7 @@ fn run_release(
     time: u64,
     out: &mut [u8; 4096],
 ) -> usize
-    ensures { Ran (some (releases time)) result store.old view.old out.old store.new view.new out.new }
+    ensures { Ran (Some (releases time)) result store.old view.old out.old store.new view.new out.new }
 {
     whole(out);
     let mut places = [0u64; 256];
@@ -128,7 +128,7 @@ fn run_release(
 }
 
 fn run_bad(store: &mut [u64; 6984], view: &mut [u64; 1307], out: &mut [u8; 4096]) -> usize
-    ensures { Ran none result store.old view.old out.old store.new view.new out.new }
+    ensures { Ran None result store.old view.old out.old store.new view.new out.new }
 {
     whole(out);
     say_bad(out, 0)

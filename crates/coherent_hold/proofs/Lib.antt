@@ -1,2 +1,3 @@
-pub mod GateLaws
+pub mod Members
+pub mod Written
 pub mod GateCalls

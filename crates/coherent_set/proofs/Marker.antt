@@ -1,5 +1,7 @@
 -- The wire form of a marker: it is the eight bytes of the number's 64 bits, so each way back is exact.
-use Rattle.std.proofs.Common.{◌≡◌, ℕ, suc, ◌+◌, ◌-◌, ◌*◌, ◌/◌, ◌%◌, ◌^◌, ◌<◌, Bool, true, false, ltb, List, [], ◌∷◌, ◌++◌, length, take, drop, ℤ, pos, negsuc, ◌+ℤ◌, ◌*ℤ◌, sym, refl, ap, ◌∙◌, mod-eq_of_lt, arith, length-drop, take-append-drop, length-take-le, w32, w64, Fits, SFits, to_z, of_z, ltb-false, ltb-true, le-ltb, lt-ltb}
+use Rattle.std.proofs.Common.{◌≡◌, ℕ, suc, ◌+◌, ◌-◌, ◌*◌, ◌/◌, ◌%◌, ◌^◌, ◌<◌, Bool, true, false, ltb, List, [], ◌∷◌, ◌++◌, length, take, drop, ℤ, pos, negsuc, ◌+ℤ◌, ◌*ℤ◌, sym, refl, ap, ◌∙◌, mod-eq_of_lt, div-one, arith, length-drop, take-append-drop, length-take-le, w32, w64, Fits, SFits, to_z, of_z, ltb-false, ltb-true, le-ltb, lt-ltb}
+use Rattle.std.specs.Int.{to_be_bytes, from_be_bytes}
+use Rattle.std.proofs.lemmas.Nat.{be_bytes_8}
 use mir.ValLaws.{of_z_fits, to_z-Fits, of_z-to_z, to_z-of_z}
 use Rattle.laws.specs.Bytes.{bytes_of, number_of}
 use Rattle.coherent_set.specs.Marker.{high, low, wire, unwire}
@@ -22,6 +24,22 @@ wire_bits z s =
     ap (λ n. bytes_of 4 n ++ bytes_of 4 (low z)) (high_bits z s)
     ∙ ap (λ l. bytes_of 4 (of_z w64 z / 2 ^ 32) ++ l) (ap (λ n. bytes_of 4 n) (low_bits z s) ∙ bytes_of_mod 4 (of_z w64 z))
     ∙ sym (bytes_of_append 4 4 (of_z w64 z))
+
+-- the eight bytes of a number are those that std writes
+pub be_bytes_of : (n : ℕ) → to_be_bytes w64 n ≡ bytes_of 8 n
+unfolding bytes_of
+be_bytes_of n = simp div-one
+
+-- what std writes of a signed number
+pub wire_written : (z : ℤ) → SFits w64 z → to_be_bytes w64 (of_z w64 z) ≡ wire z
+wire_written z s = be_bytes_of (of_z w64 z) ∙ sym (wire_bits z s)
+
+-- and the number of eight bytes is the one that std reads
+pub be_number_of : (bs : List ℕ) → length bs ≡ 8 → Bytes bs → from_be_bytes w64 bs ≡ number_of bs
+be_number_of bs e b =
+    let n : ℕ = from_be_bytes w64 bs in
+    let small : n < 2 ^ 64 = omega (arith, b 0, b 1, b 2, b 3, b 4, b 5, b 6, b 7) in
+    sym (number_of_bytes_of 8 n ∙ mod-eq_of_lt small) ∙ ap number_of (sym (be_bytes_of n) ∙ be_bytes_8 bs n e b refl)
 
 -- and back: two halves read as one number, by the sign of the first
 join : (h l : ℕ) → h < 2 ^ 32 → l < 2 ^ 32 → (t : Bool) → ltb h (2 ^ 31) ≡ t → to_z w32 h *ℤ pos (2 ^ 32) +ℤ pos l ≡ to_z w64 (h * 2 ^ 32 + l)
@@ -46,6 +64,10 @@ unwire_bits bs e b =
 
     half : (l : List ℕ) → length l ≡ 4 → Bytes l → number_of l < 2 ^ 32
     half l e b = rw e at (number_of_lt l b)
+
+-- what std reads from eight bytes, signed
+pub unwire_read : (bs : List ℕ) → length bs ≡ 8 → Bytes bs → to_z w64 (from_be_bytes w64 bs) ≡ unwire bs
+unwire_read bs e b = ap (λ n. to_z w64 n) (be_number_of bs e b) ∙ sym (unwire_bits bs e b)
 
 -- ---- there and back
 

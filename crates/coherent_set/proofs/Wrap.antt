@@ -13,11 +13,10 @@ times f (suc k) x = f (times f k x)
 -- ---- one law for every width
 
 pub next_steps : (w n : ℕ) → (n + 1 < 2 ^ w → next w n ≡ n + 1) × (n + 1 ≡ 2 ^ w → next w n ≡ 0)
-unfolding next
 next_steps w n = (λ h. mod-eq_of_lt h, λ e. ap (λ m. m % 2 ^ w) e ∙ mod_self (2 ^ w))
 
 pub next_times : (w k n : ℕ) → n < 2 ^ w → times (next w) k n ≡ (n + k) % 2 ^ w
-unfolding next times
+unfolding times
 next_times w zero n h = sym (ap (λ m. m % 2 ^ w) (add-zero n) ∙ mod-eq_of_lt h)
 next_times w (suc k) n h =
     ap (next w) (next_times w k n h) ∙ mod-add-mod (n + k) (2 ^ w) 1 ∙ ap (λ m. m % 2 ^ w) (add-one (n + k) ∙ sym (add-suc n k))
@@ -25,7 +24,7 @@ next_times w (suc k) n h =
 -- ---- the access scope
 
 counts : (k : ℕ) (s : GroupAccessScope) → (times begin_access k s).open_count ≡ times (next 32) k s.open_count
-unfolding times begin_access
+unfolding times
 counts zero s = refl
 counts (suc k) s = ap (next 32) (counts k s)
 
@@ -37,10 +36,8 @@ begins_count k s h = counts k s ∙ next_times 32 k s.open_count h
 pub begin_moves : (s : GroupAccessScope) → s.open_count ≡ 0
     → (s.snapshot_generation + 1 < 2 ^ 64 → (begin_access s).snapshot_generation ≡ s.snapshot_generation + 1)
     × (s.snapshot_generation + 1 ≡ 2 ^ 64 → (begin_access s).snapshot_generation ≡ 0)
-unfolding begin_access
 begin_moves s e = simp (eq-eqb s.open_count 0 e) (next_steps 64 s.snapshot_generation)
 
 -- and a begin from any other count leaves it
 pub begin_keeps : (s : GroupAccessScope) → (s.open_count ≡ 0 → ⊥) → (begin_access s).snapshot_generation ≡ s.snapshot_generation
-unfolding begin_access
 begin_keeps s h = simp (ne_eqb s.open_count 0 h)

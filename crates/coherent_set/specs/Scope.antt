@@ -1,50 +1,36 @@
 -- The publisher's coherent scope. DDS 1.4 §2.2.2.4.1.10 begin_coherent_changes, §2.2.2.4.1.11 end_coherent_changes.
 -- Unlike the standard's and like the Rust's, scopes do not nest: a begin while one is open is refused 6 (PreconditionNotMet).
 use Prim.{Unit, tt}
-use Rattle.std.specs.Prelude.{Bool, true, false, cond, ℤ, negsuc}
-use Rattle.std.proofs.Math.Option.{Option, some, none}
+use Rattle.std.specs.Prelude.{Bool, cond, ℤ, negsuc, Option, Some, None, is_some, option_and_then}
+use Rattle.std.specs.Option.{option_map, option_map_or}
 use Rattle.laws.specs.Answer.{Answer, refused, answered}
 use Rattle.laws.specs.Whole.{eq_z}
+use Rattle.coherent_set.specs.declared.CoherentSetMarker.{CoherentSetMarker}
 use Rattle.coherent_set.specs.declared.CoherentScope.{CoherentScope}
-use Rattle.coherent_set.specs.declared.CurrentMarker.{CurrentMarker}
-use Rattle.coherent_set.specs.declared.CurrentMarker.TheVariants.{Marker, Nothing}
-use Rattle.coherent_set.specs.declared.CoherentBegun.{CoherentBegun}
-use Rattle.coherent_set.specs.declared.CoherentBegun.TheVariants as B
-use Rattle.coherent_set.specs.declared.CoherentEnded.{CoherentEnded}
-use Rattle.coherent_set.specs.declared.CoherentEnded.TheVariants as E
 
--- the least 64-bit number, which stands for no number
+-- the least 64-bit number: a set that began at it has no marker
 abbrev pub least : ℤ
 least = negsuc 9223372036854775807
 
-unfoldable pub fresh_scope : CoherentScope
-fresh_scope = record { active = false; set_first_sn = least }
+abbrev pub fresh_scope : CoherentScope
+fresh_scope = record { set_first_sn = None }
 
 -- a set is open
-unfoldable pub active_scope : CoherentScope → Bool
-active_scope s = s.active
+abbrev pub active_scope : CoherentScope → Bool
+active_scope s = is_some s.set_first_sn
 
 -- the marker of a write while a set is open; none if the set began at the least number
-unfoldable pub marker_of : CoherentScope → Option ℤ
-marker_of s = cond s.active (cond (eq_z s.set_first_sn least) none (some s.set_first_sn)) none
+abbrev pub marker_of : CoherentScope → Option ℤ
+marker_of s = option_and_then (λ n. cond (eq_z n least) None (Some n)) s.set_first_sn
 
 -- begin: what it answers, and the scope after it
-unfoldable pub begin_coherent : CoherentScope → ℤ → Answer (Unit {0}) × CoherentScope
-begin_coherent s n = cond s.active (refused 6, s) (answered tt, record { active = true; set_first_sn = n })
+abbrev pub begin_coherent : CoherentScope → ℤ → Answer (Unit {0}) × CoherentScope
+begin_coherent s n = cond (active_scope s) (refused 6, s) (answered tt, record { set_first_sn = Some n })
 
 -- end: it answers the number that the set began at
-unfoldable pub end_coherent : CoherentScope → Answer ℤ × CoherentScope
-end_coherent s = cond s.active (answered s.set_first_sn, fresh_scope) (refused 6, s)
+abbrev pub end_coherent : CoherentScope → Answer ℤ × CoherentScope
+end_coherent s = option_map_or (λ n. (answered n, fresh_scope)) s.set_first_sn (refused 6, s)
 
--- document 01's number and values of each case
-unfoldable pub marker_as : CurrentMarker → Option ℤ
-marker_as (Marker m) = some m.set_first_sn
-marker_as Nothing = none
-
-unfoldable pub begun_as : CoherentBegun → Answer (Unit {0}) × CoherentScope
-begun_as (B.Begun s) = (answered tt, s)
-begun_as (B.PreconditionNotMet s) = (refused 6, s)
-
-unfoldable pub ended_as : CoherentEnded → Answer ℤ × CoherentScope
-ended_as (E.Ended m s) = (answered m.set_first_sn, s)
-ended_as (E.PreconditionNotMet s) = (refused 6, s)
+-- the number of a marker, if there is one
+abbrev pub marker_as : Option CoherentSetMarker → Option ℤ
+marker_as m = option_map (λ x. x.set_first_sn) m

@@ -3,7 +3,7 @@ use Prim.Native.Nat.{ℕ, zero, suc, ◌+◌, ◌-◌, ◌*◌, ◌/◌, ◌%◌
 use mathlib.Core.Path.{◌≡◌, refl, ap, ◌∙◌}
 use mathlib.Core.Bool.{Bool, true, false}
 use mathlib.Core.List.{List, [], ◌∷◌, ◌++◌}
-use mathlib.Core.Option.{Option, none, some}
+use Rattle.std.specs.Prelude.{Option, None, Some}
 use native.Mathlib.Nat.{div-add-mod'}
 use native.Mathlib.Omega.{arith}
 use borrow.Author.Tests.{ltb-true, ltb-false, le-leb, ne_eqb}
@@ -32,31 +32,31 @@ module _
 
 -- ---- the digits read
 
-given_some : (t : Bool) (a b : Option ℕ) (m n : ℕ) → (a ≡ some m → b ≡ some n) → given t a ≡ some m → given t b ≡ some n
+given_some : (t : Bool) (a b : Option ℕ) (m n : ℕ) → (a ≡ Some m → b ≡ Some n) → given t a ≡ Some m → given t b ≡ Some n
 unfolding given
 given_some true a b m n f e = f e
 given_some false a b m n f e = let z : ◌≡◌ {A = ℕ} 0 1 = cc in absurd (omega arith)
 
-read_one : (v d : ℕ) → d < 10 → read_on v ((48 + d) ∷ []) ≡ some (v * 10 + d)
+read_one : (v d : ℕ) → d < 10 → read_on v ((48 + d) ∷ []) ≡ Some (v * 10 + d)
 unfolding read_on is_digit given
 read_one v d h =
     let e : 48 + d - 48 ≡ d = omega arith in rw (le-leb 48 (48 + d) (omega arith), le-leb (48 + d) 57 (omega arith), e)
 
 -- one digit more
-read_more : (v m : ℕ) (s : List ℕ) (d : ℕ) → d < 10 → read_on v s ≡ some m → read_on v (s ++ ((48 + d) ∷ [])) ≡ some (m * 10 + d)
+read_more : (v m : ℕ) (s : List ℕ) (d : ℕ) → d < 10 → read_on v s ≡ Some m → read_on v (s ++ ((48 + d) ∷ [])) ≡ Some (m * 10 + d)
 unfolding read_on
 read_more v m [] d h e = let p : v ≡ m = cc in rw (← p) (read_one v d h)
 read_more v m (b ∷ s) d h e =
     let w = v * 10 + (b - 48) in
     given_some (is_digit b) (read_on w s) (read_on w (s ++ ((48 + d) ∷ []))) m (m * 10 + d) (read_more w m s d h) e
 
-digits_read : (n : ℕ) → n < 10 ^ 20 → read_on 0 (digits_of n) ≡ some n
+digits_read : (n : ℕ) → n < 10 ^ 20 → read_on 0 (digits_of n) ≡ Some n
 unfolding digits_of
 digits_read n b =
     digits_ind
-    (λ n ds. read_on 0 ds ≡ some n)
-    (λ n h. let e : 0 * 10 + n ≡ n = omega arith in read_one 0 n h ∙ ap some e)
-    (λ n ds h p. read_more 0 (n / 10) ds (n % 10) (omega arith) p ∙ ap some (div-add-mod' n 10))
+    (λ n ds. read_on 0 ds ≡ Some n)
+    (λ n h. let e : 0 * 10 + n ≡ n = omega arith in read_one 0 n h ∙ ap Some e)
+    (λ n ds h p. read_more 0 (n / 10) ds (n % 10) (omega arith) p ∙ ap Some (div-add-mod' n 10))
     19
     n
     b
@@ -91,7 +91,7 @@ digits_plain (suc m) b = plain_first (digits_of (suc m)) (digits_first (suc m) b
 
 -- ---- the theorem
 
-pub read_printed : (n : ℕ) → n < 2 ^ 64 → read_unsigned (digits_of n) ≡ some n
+pub read_printed : (n : ℕ) → n < 2 ^ 64 → read_unsigned (digits_of n) ≡ Some n
 unfolding read_unsigned read_number at_most given
 read_printed n h =
     let b : n < 10 ^ 20 = omega arith in rw (digits_plain n b, digits_read n b, le-leb n (2 ^ 64 - 1) (omega arith))
@@ -102,26 +102,26 @@ prints_largest : digits_of 18446744073709551615 ≡ 49 ∷ 56 ∷ 52 ∷ 52 ∷ 
 unfolding digits_of digits_in one_or
 prints_largest = refl
 
-reads_above : read_unsigned (digits_of 18446744073709551616) ≡ none
+reads_above : read_unsigned (digits_of 18446744073709551616) ≡ None
 unfolding digits_of digits_in one_or read_unsigned read_number read_on plain is_digit given at_most
 reads_above = refl
 
-reads_nothing : read_unsigned [] ≡ none
+reads_nothing : read_unsigned [] ≡ None
 unfolding read_unsigned read_number plain given at_most
 reads_nothing = refl
 
-reads_zero : read_unsigned (48 ∷ []) ≡ some 0
+reads_zero : read_unsigned (48 ∷ []) ≡ Some 0
 unfolding read_unsigned read_number read_on plain is_digit given at_most
 reads_zero = refl
 
-refuses_zero_before : read_unsigned (48 ∷ 53 ∷ []) ≡ none
+refuses_zero_before : read_unsigned (48 ∷ 53 ∷ []) ≡ None
 unfolding read_unsigned read_number read_on plain is_digit given at_most
 refuses_zero_before = refl
 
-reads_lowest : read_signed (45 ∷ digits_of 9223372036854775808) ≡ some (negsuc 9223372036854775807)
+reads_lowest : read_signed (45 ∷ digits_of 9223372036854775808) ≡ Some (negsuc 9223372036854775807)
 unfolding digits_of digits_in one_or read_signed read_signed_by read_number read_on plain is_digit given at_most minus
 reads_lowest = refl
 
-refuses_sign_alone : read_signed (45 ∷ []) ≡ none
+refuses_sign_alone : read_signed (45 ∷ []) ≡ None
 unfolding read_signed read_signed_by read_number plain given at_most minus
 refuses_sign_alone = refl

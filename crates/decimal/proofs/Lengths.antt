@@ -3,7 +3,7 @@ use Prim.Native.Nat.{ℕ, zero, suc, ◌+◌, ◌-◌, ◌*◌, ◌/◌, ◌%◌
 use mathlib.Core.Path.{◌≡◌, refl, ap}
 use mathlib.Core.Bool.{Bool, true, false, not, ◌&&◌}
 use mathlib.Core.List.{List, [], ◌∷◌}
-use mathlib.Core.Option.{none}
+use Rattle.std.specs.Prelude.{None}
 use native.Mathlib.Omega.{arith}
 use borrow.Author.Tests.{eqb-false, leb-true, lt-ltb}
 use lib.Dec.{eqb, leb, ltb}
@@ -18,7 +18,7 @@ tens zero p = p
 tens (suc k) p = tens k (p * 10)
 
 -- k digits after a value of at least p
-digits_above : (m k p v : ℕ) (s : List ℕ) → k ≤ length s → p ≤ v → m < tens k p → at_most m (read_on v s) ≡ none
+digits_above : (m k p v : ℕ) (s : List ℕ) → k ≤ length s → p ≤ v → m < tens k p → at_most m (read_on v s) ≡ None
 unfolding read_on tens
 digits_above m zero p v s l h q = read_above m v s (omega arith)
 digits_above m (suc k) p v [] l h q = absurd (omega arith)
@@ -27,7 +27,7 @@ digits_above m (suc k) p v (b ∷ s) l h q =
 
 first_above : (m b : ℕ) (s : List ℕ) → m < 10 ^ 20 → 20 ≤ length s
     → (t u : Bool) → eqb b 48 ≡ t → leb 48 b ≡ u
-    → at_most m (given (not t) (given (u && leb b 57) (read_on (0 * 10 + (b - 48)) s))) ≡ none
+    → at_most m (given (not t) (given (u && leb b 57) (read_on (0 * 10 + (b - 48)) s))) ≡ None
 unfolding given at_most tens
 first_above m b s q l true u e h = refl
 first_above m b s q l false false e h = refl
@@ -36,20 +36,20 @@ first_above m b s q l false true e h =
     let v : 1 ≤ 0 * 10 + (b - 48) = omega (arith, n, leb-true 48 b h) in
     given_none m (leb b 57) (read_on (0 * 10 + (b - 48)) s) (digits_above m 20 1 (0 * 10 + (b - 48)) s l v q)
 
-number_long : (m : ℕ) (s : List ℕ) → m < 10 ^ 20 → 20 < length s → at_most m (read_number s) ≡ none
+number_long : (m : ℕ) (s : List ℕ) → m < 10 ^ 20 → 20 < length s → at_most m (read_number s) ≡ None
 unfolding read_number plain read_on is_digit
 number_long m [] q l = absurd (omega arith)
 number_long m (b ∷ []) q l = absurd (omega arith)
 number_long m (b ∷ c ∷ s) q l = first_above m b (c ∷ s) q (omega arith) (eqb b 48) (leb 48 b) refl refl
 
-pub unsigned_long : (s : List ℕ) → 20 < length s → read_unsigned s ≡ none
+pub unsigned_long : (s : List ℕ) → 20 < length s → read_unsigned s ≡ None
 unfolding read_unsigned
 unsigned_long s l = number_long (2 ^ 64 - 1) s (omega arith) l
 
-pub signed_long : (s : List ℕ) → 21 < length s → read_signed s ≡ none
+pub signed_long : (s : List ℕ) → 21 < length s → read_signed s ≡ None
 unfolding read_signed read_signed_by plus minus
 signed_long s l = (elim (eqb (get_or s 0 0) 45)
-    as (λ t. read_signed_by t s ≡ none) [
+    as (λ t. read_signed_by t s ≡ None) [
       | true ↦ ap (λ r. minus r) (number_long (2 ^ 63) (drop 1 s) (omega arith) (omega (arith, length-drop 1 s)))
       | false ↦ ap (λ r. plus r) (number_long (2 ^ 63 - 1) s (omega arith) (omega arith))
     ])

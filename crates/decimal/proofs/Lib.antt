@@ -1,6 +1,7 @@
 pub mod Reading
 pub mod Splitting
-mod Printing
+pub mod Printing
+pub mod Fronts
 pub mod Putting
 pub mod Lengths
 pub mod Laws

@@ -1,5 +1,5 @@
 -- Bytes put into a list as far as there is room: put one after the other they are put at once.
-use Prim.Native.Nat.{ℕ, ◌+◌, ◌-◌, ◌≤◌, min}
+use Prim.Native.Nat.{ℕ, zero, suc, ◌+◌, ◌-◌, ◌≤◌, min}
 use mathlib.Core.Path.{◌≡◌, refl, sym, ap, ◌∙◌, subst}
 use mathlib.Core.Bool.{true, false}
 use mathlib.Core.List.{List, [], ◌∷◌, ◌++◌, append_assoc}
@@ -94,3 +94,28 @@ put_front out s h =
     let z : 0 + length s ≡ length s = omega arith in
     let e : 0 + min (length s) (length out - 0) ≡ length s = omega arith in
     rw (e, z, take_all (length out - 0) s (omega arith))
+
+-- ---- behind what a list of at most n bytes holds
+
+-- what is put next is put behind
+pub put_behind : (n : ℕ) (a s : List ℕ) → take n (take n a ++ s) ≡ take n (a ++ s)
+put_behind zero a s = refl
+put_behind (suc n) [] s = refl
+put_behind (suc n) (b ∷ a) s = ap (λ (l : List ℕ). b ∷ l) (put_behind n a s)
+
+-- the same bytes as put over those of a list from the place behind
+pub put_taken : (out : List ℕ) (at : ℕ) (s : List ℕ) → at ≤ length out
+    → take (put out at s).0 (put out at s).1 ≡ take (length out) (take at out ++ s)
+unfolding put
+put_taken out at s h =
+    let m = min (length s) (length out - at) in
+    let k = length out - at in
+    let l : length (take at out) ≡ at = omega (arith, length-take at out) in
+    let e : length out ≡ length (take at out) + k = omega arith in
+    let f : at + m ≡ length (take at out) + m = omega arith in
+    let g : length (take k s) ≡ m = omega (arith, length-take k s) in
+    ap (λ (i : ℕ). take i (take at out ++ (take k s ++ drop (at + length s) out))) f
+    ∙ take-append-add (take at out) (take k s ++ drop (at + length s) out) m
+    ∙ ap (λ (t : List ℕ). take at out ++ t) (take-append-le m (take k s) (drop (at + length s) out) (omega arith) ∙ take_all m (take k s) (omega arith))
+    ∙ sym (take-append-add (take at out) s k)
+    ∙ ap (λ (i : ℕ). take i (take at out ++ s)) (sym e)

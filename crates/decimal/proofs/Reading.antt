@@ -3,7 +3,7 @@ use Prim.Native.Nat.{ℕ, zero, suc, ◌+◌, ◌-◌, ◌*◌, ◌^◌, ◌≤�
 use mathlib.Core.Path.{◌≡◌, refl, ap, ◌∙◌}
 use mathlib.Core.Bool.{Bool, true, false, not}
 use mathlib.Core.List.{List, [], ◌∷◌}
-use mathlib.Core.Option.{Option, none, some}
+use Rattle.std.specs.Prelude.{Option, None, Some}
 use native.Mathlib.Numerals.{add-one}
 use native.Mathlib.Omega.{arith}
 use borrow.Author.Tests.{le-leb, lt-leb, leb-false, eq-eqb, ne_eqb}
@@ -18,13 +18,13 @@ use Rattle.decimal.specs.Read.{given, is_digit, read_on, plain, at_most, read_nu
 
 -- ---- the digits
 
-pub given_none : (m : ℕ) (t : Bool) (r : Option ℕ) → at_most m r ≡ none → at_most m (given t r) ≡ none
+pub given_none : (m : ℕ) (t : Bool) (r : Option ℕ) → at_most m r ≡ None → at_most m (given t r) ≡ None
 unfolding at_most given
 given_none m true r h = h
 given_none m false r h = refl
 
 -- a value past the limit stays past it
-pub read_above : (m v : ℕ) (s : List ℕ) → m < v → at_most m (read_on v s) ≡ none
+pub read_above : (m v : ℕ) (s : List ℕ) → m < v → at_most m (read_on v s) ≡ None
 unfolding read_on at_most given
 read_above m v [] h = simp (lt-leb v m h)
 read_above m v (b ∷ s) h =
@@ -36,7 +36,7 @@ module _ (v : ℕ) (s : List ℕ) (i : ℕ) (h : i < length s) where
   unfolding read_on is_digit given
   read_digit a b = rw (add-one, drop-cons s i 0 h) (simp (le-leb 48 (get_or s i 0) a, le-leb (get_or s i 0) 57 b))
 
-  pub read_stop : is_digit (get_or s i 0) ≡ false → read_on v (drop i s) ≡ none
+  pub read_stop : is_digit (get_or s i 0) ≡ false → read_on v (drop i s) ≡ None
   unfolding read_on given
   read_stop e = rw (drop-cons s i 0 h) (simp e)
 
@@ -69,7 +69,7 @@ plain_more (b ∷ c ∷ s) h = refl
 
 -- ---- limits
 
-at_most_by : (a b n : ℕ) → a ≤ b → (t : Bool) → leb n b ≡ t → at_most a (given t (some n)) ≡ at_most a (some n)
+at_most_by : (a b n : ℕ) → a ≤ b → (t : Bool) → leb n b ≡ t → at_most a (given t (Some n)) ≡ at_most a (Some n)
 unfolding at_most given
 at_most_by a b n h true e = refl
 at_most_by a b n h false e = simp (lt-leb n a (omega (arith, leb-false n b e)))
@@ -77,8 +77,8 @@ at_most_by a b n h false e = simp (lt-leb n a (omega (arith, leb-false n b e)))
 -- the lower of two limits is the one that counts
 pub at_most_both : (a b : ℕ) (r : Option ℕ) → a ≤ b → at_most a (at_most b r) ≡ at_most a r
 unfolding at_most
-at_most_both a b none h = refl
-at_most_both a b (some n) h = at_most_by a b n h (leb n b) refl
+at_most_both a b None h = refl
+at_most_both a b (Some n) h = at_most_by a b n h (leb n b) refl
 
 -- ---- the negative of a number, by its bits
 
@@ -89,7 +89,7 @@ negative_bits (suc k) h l =
 
 -- ---- the sign
 
-pub signed_none : (s : List ℕ) → length s ≡ 0 → read_signed s ≡ none
+pub signed_none : (s : List ℕ) → length s ≡ 0 → read_signed s ≡ None
 unfolding read_signed read_signed_by read_number plus at_most given plain
 signed_none [] e = refl
 signed_none (b ∷ s) e = absurd (omega arith)

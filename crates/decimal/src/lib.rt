@@ -1,83 +1,117 @@
-// The decimal fields of a line: numbers read from text and printed, and where a field or a line ends.
+// Decimal numbers read from text and printed, and where a field or a line ends.
 #![tactic(auto)]
 
-ghost use Rattle.std.specs.Prelude.{◌≡◌, ◌≤◌, ◌-◌, ◌^◌, length, drop};
-ghost use Rattle.std.proofs.Math.Option.{some};
-ghost use Rattle.decimal.specs.Read.{read_on, read_unsigned, read_signed, at_most, plus, minus, unsigned_as, signed_as};
+pub mod text;
+
+ghost use Rattle.std.specs.Prelude.{◌≡◌, ◌+◌, ◌-◌, ◌*◌, ◌^◌, ◌≤◌, drop, Some};
+ghost use Rattle.decimal.specs.Read.{plain, at_most, plus, minus, read_unsigned, read_signed, unsigned_len, signed_len, unsigned_front, signed_front};
 ghost use Rattle.decimal.specs.Split.{field_end};
 ghost use Rattle.decimal.specs.Print.{digits_of, signed_digits, put};
 
-use coherent_set::bits_of;
-
-#[derive(Clone, Copy)]
-pub enum Unsigned {
-    Value(u64),
-    Bad,
-}
-
-#[derive(Clone, Copy)]
-pub enum Signed {
-    Value(i64),
-    Bad,
-}
-
-const LARGEST: u64 = 18446744073709551615;
+use itoa::Buffer;
 
 // The number that all of s spells: digits, with no zero before others.
-pub fn read_unsigned(s: &[u8]) -> Unsigned
-    ensures { unsigned_as result ≡ read_unsigned s.now }
+pub fn read_unsigned(s: &[u8]) -> Option<u64>
+    ensures { result ≡ read_unsigned s.now }
 {
-    if s.len() == 0 {
-        return Unsigned::Bad; // an empty field
-    }
-    let single = s.len() == 1;
-    if single {
-        return digits(s);
-    }
-    if s[0] == b'0' {
-        return Unsigned::Bad;
-    }
-    digits(s)
+    let (number, behind) = split_unsigned(s);
+    if behind.is_empty() { number } else { None }
 }
 
 // The same, with a minus sign in front where the number is negative.
-pub fn read_signed(s: &[u8]) -> Signed
-    ensures { signed_as result ≡ read_signed s.now }
+pub fn read_signed(s: &[u8]) -> Option<i64>
+    ensures { result ≡ read_signed s.now }
 {
-    if s.len() == 0 {
-        return Signed::Bad;
-    }
-    if s[0] == b'-' {
-        let m = read_unsigned(&s[1..]);
-        match m {
-            Unsigned::Value(n) => negative(n),
-            Unsigned::Bad => Signed::Bad, // no number after the sign
+    let (number, behind) = split_signed(s);
+    if behind.is_empty() { number } else { None }
+}
+
+// The number that the digits at s's front spell, and what stands behind them.
+pub fn split_unsigned(s: &[u8]) -> (Option<u64>, &[u8])
+    ensures number { result.0 ≡ read_unsigned (unsigned_front s.now) }
+    ensures behind { result.1.now ≡ drop (unsigned_len s.now) s.now }
+{
+    let mut number = 0;
+    for (i, byte) in s.iter().enumerate() {
+        if !byte.is_ascii_digit() {
+            return (is_plain(&s[..i]).then_some(number), &s[i..]);
         }
+        match with_digit(number, byte - b'0') {
+            Some(n) => number = n,
+            None => return (None, behind_digits(&s[i..])),
+        }
+    }
+    (is_plain(s).then_some(number), &s[s.len()..])
+}
+
+// The same, with a minus sign in front or without.
+pub fn split_signed(s: &[u8]) -> (Option<i64>, &[u8])
+    ensures number { result.0 ≡ read_signed (signed_front s.now) }
+    ensures behind { result.1.now ≡ drop (signed_len s.now) s.now }
+{
+    if !s.is_empty() && s[0] == b'-' {
+        let (size, behind) = split_unsigned(&s[1..]);
+        (size.and_then(negative), behind)
     } else {
-        let m = read_unsigned(s);
-        match m {
-            Unsigned::Value(n) => positive(n),
-            Unsigned::Bad => Signed::Bad,
-        }
+        let (size, behind) = split_unsigned(s);
+        (size.and_then(positive), behind)
     }
+}
+
+fn positive(size: u64) -> Option<i64>
+    ensures { result ≡ plus (at_most (2 ^ 63 - 1) (Some size)) }
+{
+    i64::try_from(size).ok()
+}
+
+fn negative(size: u64) -> Option<i64>
+    ensures { result ≡ minus (at_most (2 ^ 63) (Some size)) }
+{
+    0i64.checked_sub_unsigned(size)
+}
+
+// What stands behind the digits at s's front.
+#[cold]
+fn behind_digits(s: &[u8]) -> &[u8]
+    ensures { result.now ≡ drop (unsigned_len s.now) s.now }
+{
+    let mut behind = s;
+    while let Some((first, rest)) = behind.split_first() {
+        if !first.is_ascii_digit() {
+            break;
+        }
+        behind = rest;
+    }
+    behind
+}
+
+// One digit, or several with no zero in front.
+fn is_plain(digits: &[u8]) -> bool
+    ensures { result ≡ plain digits.now }
+{
+    match digits {
+        [] => false,
+        [_] => true,
+        [first, ..] => *first != b'0',
+    }
+}
+
+// n with one digit more.
+fn with_digit(n: u64, digit: u8) -> Option<u64>
+    ensures { result ≡ at_most (2 ^ 64 - 1) (Some (n * 10 + digit)) }
+{
+    n.checked_mul(10)?.checked_add(u64::from(digit))
 }
 
 // The index of the first byte at or after at that is `stop`, or s's length where there is none.
 pub fn field_end(s: &[u8], at: usize, stop: u8) -> usize
     ensures { result ≡ field_end stop s.now at }
 {
-    if s.len() <= at {
-        return s.len();
+    let from = at.min(s.len());
+    match s[from..].iter().position(|b| *b == stop) {
+        Some(n) => from + n,
+        None => s.len(),
     }
-    let mut i = at;
-    while i < s.len() {
-        let ends = s[i] == stop;
-        if ends {
-            return i;
-        }
-        i += 1;
-    }
-    i
 }
 
 // Puts s into out from `at` on, as far as out has room, and answers the place behind it.
@@ -101,86 +135,14 @@ pub fn put_bytes(out: &mut [u8], at: usize, s: &[u8]) -> usize
 pub fn put_unsigned(out: &mut [u8], at: usize, n: u64) -> usize
     ensures { (result, out.new) ≡ put out.old at (digits_of n) }
 {
-    let mut text = [0u8; 20];
-    let k = spell(n, &mut text);
-    put_bytes(out, at, &text[k..])
+    let mut digits = Buffer::new();
+    put_bytes(out, at, digits.format(n).as_bytes())
 }
 
 // Puts x's, with a minus sign in front where it is negative.
 pub fn put_signed(out: &mut [u8], at: usize, x: i64) -> usize
     ensures { (result, out.new) ≡ put out.old at (signed_digits x) }
 {
-    let bits = bits_of(x);
-    let negative = x < 0;
-    if negative {
-        let next = put_bytes(out, at, b"-");
-        return put_unsigned(out, next, !bits + 1); // the size of x
-    }
-    put_unsigned(out, at, bits)
-}
-
-// The number that the digits of s spell, with zeros in front or none.
-fn digits(s: &[u8]) -> Unsigned
-    ensures { unsigned_as result ≡ at_most (2 ^ 64 - 1) (read_on 0 s.now) }
-{
-    let mut v: u64 = 0;
-    let mut i: usize = 0;
-    while i < s.len() {
-        let b = s[i];
-        if b < b'0' {
-            return Unsigned::Bad;
-        }
-        if b'9' < b {
-            return Unsigned::Bad;
-        }
-        let d = (b - b'0') as u64;
-        if (LARGEST - d) / 10 < v {
-            return Unsigned::Bad;
-        }
-        v = v * 10 + d;
-        i += 1;
-    }
-    Unsigned::Value(v)
-}
-
-fn positive(n: u64) -> Signed
-    ensures { signed_as result ≡ plus (at_most (2 ^ 63 - 1) (some n)) }
-{
-    let fits = n <= 9223372036854775807;
-    if fits {
-        Signed::Value(n as i64)
-    } else {
-        Signed::Bad
-    }
-}
-
-// -n is !(n - 1), which is there for the lowest number too.
-fn negative(n: u64) -> Signed
-    ensures { signed_as result ≡ minus (at_most (2 ^ 63) (some n)) }
-{
-    if n == 0 {
-        return Signed::Value(0);
-    }
-    let fits = n <= 9223372036854775808;
-    if fits {
-        Signed::Value(!((n - 1) as i64))
-    } else {
-        Signed::Bad
-    }
-}
-
-// Puts n's digits at the end of text, and answers where they begin.
-fn spell(n: u64, text: &mut [u8; 20]) -> usize
-    requires { length text.old ≡ 20 }
-    ensures { (result ≤ 20) × (length text.new ≡ 20) × (drop result text.new ≡ digits_of n) }
-{
-    let mut rest = n;
-    let mut i: usize = 19;
-    while 9 < rest {
-        text[i] = b'0' + (rest % 10) as u8;
-        rest /= 10;
-        i -= 1;
-    }
-    text[i] = b'0' + rest as u8;
-    i
+    let mut digits = Buffer::new();
+    put_bytes(out, at, digits.format(x).as_bytes())
 }

@@ -1,3 +1,4 @@
 pub mod Fields
 pub mod OnePass
 mod Told
+pub mod Left

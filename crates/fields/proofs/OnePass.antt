@@ -3,7 +3,7 @@ use Prim.Native.Nat.{ℕ, zero, suc, ◌+◌, ◌-◌, ◌*◌, ◌/◌, ◌^◌
 use mathlib.Core.Path.{◌≡◌, refl, sym, ap, ◌∙◌, subst}
 use mathlib.Core.Bool.{Bool, true, false, cond, ◌&&◌, ◌||◌}
 use mathlib.Core.List.{List, [], ◌∷◌}
-use mathlib.Core.Option.{Option, none, some}
+use Rattle.std.specs.Prelude.{Option, None, Some}
 use native.Mathlib.Nat.{add-zero}
 use native.Mathlib.Numerals.{add-one}
 use native.Mathlib.Omega.{arith}
@@ -46,8 +46,8 @@ module _ (nl : Bool) (s : List ℕ) (i : ℕ) where
 -- the same place, seen from one byte on
 pub ending_next : {A : Type 0} (i b : ℕ) (f : List ℕ) (r : Option A) → ending i (b ∷ f) r ≡ ending (i + 1) f r
 unfolding ending
-ending_next i b f none = refl
-ending_next i b f (some n) = let m : i + suc (length f) ≡ i + 1 + length f = omega arith in ap (λ k. some (n, k)) m
+ending_next i b f None = refl
+ending_next i b f (Some n) = let m : i + suc (length f) ≡ i + 1 + length f = omega arith in ap (λ k. Some (n, k)) m
 
 -- ---- its digits, read on from v
 
@@ -59,11 +59,11 @@ rest nl s v i = ending i (field_in nl (drop i s)) (limit (read_on v (field_in nl
 
 module _ (nl : Bool) (s : List ℕ) (v i : ℕ) where
   -- an empty field
-  rest_empty : v < 2 ^ 64 → field_in nl (drop i s) ≡ [] → rest nl s v i ≡ some (v, i)
+  rest_empty : v < 2 ^ 64 → field_in nl (drop i s) ≡ [] → rest nl s v i ≡ Some (v, i)
   unfolding rest read_on at_most given ending
   rest_empty h e = rw (e, le-leb v (2 ^ 64 - 1) (omega arith), add-zero)
 
-  pub rest_past : v < 2 ^ 64 → length s ≤ i → rest nl s v i ≡ some (v, i)
+  pub rest_past : v < 2 ^ 64 → length s ≤ i → rest nl s v i ≡ Some (v, i)
   rest_past h l = rest_empty h (in_none nl s i l)
 
   module _ (h : i < length s) where
@@ -74,18 +74,18 @@ module _ (nl : Bool) (s : List ℕ) (v i : ℕ) where
     f = field_in nl (drop (i + 1) s)
 
     -- a byte that is no digit
-    rest_stop : is_digit b ≡ false → (eqb b 32 || ends nl b) ≡ false → rest nl s v i ≡ none
+    rest_stop : is_digit b ≡ false → (eqb b 32 || ends nl b) ≡ false → rest nl s v i ≡ None
     unfolding rest read_on at_most given ending
     rest_stop d e = rw (in_byte nl s i h e, d)
 
-    pub rest_low : v < 2 ^ 64 → b < 48 → rest nl s v i ≡ cond (eqb b 32 || ends nl b) (some (v, i)) none
+    pub rest_low : v < 2 ^ 64 → b < 48 → rest nl s v i ≡ cond (eqb b 32 || ends nl b) (Some (v, i)) None
     rest_low l d =
-        (elim (eqb b 32 || ends nl b) as (λ t. (eqb b 32 || ends nl b) ≡ t → rest nl s v i ≡ cond t (some (v, i)) none) [
+        (elim (eqb b 32 || ends nl b) as (λ t. (eqb b 32 || ends nl b) ≡ t → rest nl s v i ≡ cond t (Some (v, i)) None) [
           | true ↦ λ e. rest_empty l (in_stop nl s i h e)
           | false ↦ λ e. rest_stop (digit_low b d) e
         ]) refl
 
-    pub rest_high : 57 < b → rest nl s v i ≡ none
+    pub rest_high : 57 < b → rest nl s v i ≡ None
     rest_high d = rest_stop (digit_high b d) (no_end nl b (λ e. omega (arith, d, e)) (λ e. omega (arith, d, e)))
 
     -- a digit
@@ -96,7 +96,7 @@ module _ (nl : Bool) (s : List ℕ) (v i : ℕ) where
           rw (in_byte nl s i h (no_end nl b (λ e. omega (arith, lo, e)) (λ e. omega (arith, lo, e))), le-leb 48 b lo, le-leb b 57 hi)
           (ending_next i b f (limit (read_on (v * 10 + (b - 48)) f)))
 
-      pub rest_above : 2 ^ 64 ≤ v * 10 + (b - 48) → rest nl s v i ≡ none
+      pub rest_above : 2 ^ 64 ≤ v * 10 + (b - 48) → rest nl s v i ≡ None
       unfolding rest ending
       rest_above a = rest_next ∙ rw (read_above (2 ^ 64 - 1) (v * 10 + (b - 48)) f (omega arith))
 
@@ -134,21 +134,21 @@ stop at f = (long_to (ending at f (digits f))).end
 
 end_empty : (at : ℕ) (f : List ℕ) (r : Option ℕ) → at < 2 ^ 64 - 1 → (long_to (ending at f r)).end ≡ at → length f ≡ 0
 unfolding long_to ending
-end_empty at f none l e = absurd (omega (arith, e, l))
-end_empty at f (some v) l e = omega (arith, e)
+end_empty at f None l e = absurd (omega (arith, e, l))
+end_empty at f (Some v) l e = omega (arith, e)
 
 end_one : (at : ℕ) (f : List ℕ) (r : Option ℕ) → at + 1 < 2 ^ 64 - 1 → (long_to (ending at f r)).end ≡ at + 1 → length f ≡ 1
 unfolding long_to ending
-end_one at f none l e = absurd (omega (arith, e, l))
-end_one at f (some v) l e = omega (arith, e)
+end_one at f None l e = absurd (omega (arith, e, l))
+end_one at f (Some v) l e = omega (arith, e)
 
 module _ (at : ℕ) where
-  pub none_there : (f : List ℕ) → length f ≡ 0 → long_to none ≡ long_to (ending at f (read_unsigned f))
+  pub none_there : (f : List ℕ) → length f ≡ 0 → long_to None ≡ long_to (ending at f (read_unsigned f))
   unfolding read_unsigned read_number plain given at_most ending
   none_there [] e = refl
   none_there (b ∷ f) e = absurd (omega arith)
 
-  pub unsigned_none : (f : List ℕ) → at < 2 ^ 64 - 1 → stop at f ≡ at → long_to none ≡ long_to (ending at f (read_unsigned f))
+  pub unsigned_none : (f : List ℕ) → at < 2 ^ 64 - 1 → stop at f ≡ at → long_to None ≡ long_to (ending at f (read_unsigned f))
   unsigned_none f l e = none_there f (end_empty at f (digits f) l e)
 
   pub unsigned_some : (f : List ℕ) → (0 < length f → get_or f 0 0 ≡ 48 → ⊥) → (stop at f ≡ at → ⊥)
@@ -170,7 +170,7 @@ module _ (at : ℕ) where
 
   -- a zero before other digits
   pub unsigned_other : (f : List ℕ) → (0 < length f → get_or f 0 0 ≡ 48) → (stop at f ≡ at → ⊥) → (stop at f ≡ at + 1 → ⊥)
-      → long_to none ≡ long_to (ending at f (read_unsigned f))
+      → long_to None ≡ long_to (ending at f (read_unsigned f))
   unfolding read_unsigned read_number plain given read_on is_digit at_most ending long_to
   unsigned_other [] z e o = absurd (e (omega arith))
   unsigned_other (b ∷ []) z e o = let q : b ≡ 48 = z (omega arith) in absurd (o (rw q (omega arith)))
@@ -194,7 +194,7 @@ module _ (nl : Bool) (s : List ℕ) (i : ℕ) where
       ]) refl
 
 -- only a field of one byte has an only byte
-only_head : (f : List ℕ) → only f ≡ 45 → (0 < length f) × (get_or f 0 0 ≡ 45)
+pub only_head : (f : List ℕ) → only f ≡ 45 → (0 < length f) × (get_or f 0 0 ≡ 45)
 unfolding only
 only_head [] e = absurd (omega (arith, e))
 only_head (b ∷ []) e = (omega arith, e)
@@ -241,13 +241,13 @@ module _ (at : ℕ) (f : List ℕ) where
   -- the value up to m
   pub within : (m : ℕ) (r : Option ℕ) → (long_to (ending at f r)).value ≤ m → long_to (ending at f r) ≡ long_to (ending at f (at_most m r))
   unfolding long_to ending at_most given
-  within m none h = refl
-  within m (some v) h = rw (le-leb v m h)
+  within m None h = refl
+  within m (Some v) h = rw (le-leb v m h)
 
-  pub above : (m : ℕ) (r : Option ℕ) → m < (long_to (ending at f r)).value → long_to none ≡ long_to (ending at f (at_most m r))
+  pub above : (m : ℕ) (r : Option ℕ) → m < (long_to (ending at f r)).value → long_to None ≡ long_to (ending at f (at_most m r))
   unfolding long_to ending at_most given
-  above m none h = absurd (omega (arith, h))
-  above m (some v) h = rw (lt-leb v m h)
+  above m None h = absurd (omega (arith, h))
+  above m (Some v) h = rw (lt-leb v m h)
 
 -- ---- a digit more than a u64 holds
 
@@ -268,13 +268,13 @@ as_word r = record { value = r.value; end = r.end }
 
 byte_as : (o : Option (ℕ × ℕ)) → as_byte (long_to o) ≡ byte_to o
 unfolding long_to byte_to
-byte_as none = refl
-byte_as (some r) = refl
+byte_as None = refl
+byte_as (Some r) = refl
 
 word_as : (o : Option (ℕ × ℕ)) → as_word (long_to o) ≡ word_to o
 unfolding long_to word_to
-word_as none = refl
-word_as (some r) = refl
+word_as None = refl
+word_as (Some r) = refl
 
 module _ (nl : Bool) (at : ℕ) (s : List ℕ) (m : ℕ) where
   abbrev whole : Option (ℕ × ℕ)
@@ -287,18 +287,18 @@ module _ (nl : Bool) (at : ℕ) (s : List ℕ) (m : ℕ) where
   unfolding field_after field_from up_to
   after_within =
       let f = field_in nl (drop (at + 1) s) in
-      (elim (eqb (get_or s at 0) 32) as (λ t. (long_to (cond t (ending (at + 1) f (read_unsigned f)) none)).value ≤ m
-      → long_to (cond t (ending (at + 1) f (read_unsigned f)) none) ≡ long_to (cond t (ending (at + 1) f (at_most m (read_unsigned f))) none)) [
+      (elim (eqb (get_or s at 0) 32) as (λ t. (long_to (cond t (ending (at + 1) f (read_unsigned f)) None)).value ≤ m
+      → long_to (cond t (ending (at + 1) f (read_unsigned f)) None) ≡ long_to (cond t (ending (at + 1) f (at_most m (read_unsigned f))) None)) [
         | true ↦ within (at + 1) f m (read_unsigned f)
         | false ↦ λ h. refl
       ])
 
-  after_above : m < (long_to whole).value → long_to none ≡ long_to limited
+  after_above : m < (long_to whole).value → long_to None ≡ long_to limited
   unfolding field_after field_from up_to
   after_above =
       let f = field_in nl (drop (at + 1) s) in
-      (elim (eqb (get_or s at 0) 32) as (λ t. m < (long_to (cond t (ending (at + 1) f (read_unsigned f)) none)).value
-      → long_to none ≡ long_to (cond t (ending (at + 1) f (at_most m (read_unsigned f))) none)) [
+      (elim (eqb (get_or s at 0) 32) as (λ t. m < (long_to (cond t (ending (at + 1) f (read_unsigned f)) None)).value
+      → long_to None ≡ long_to (cond t (ending (at + 1) f (at_most m (read_unsigned f))) None)) [
         | true ↦ above (at + 1) f m (read_unsigned f)
         | false ↦ λ h. refl
       ])
@@ -307,46 +307,46 @@ module _ (nl : Bool) (at : ℕ) (s : List ℕ) (m : ℕ) where
     low : r.value ≤ m → r ≡ long_to limited
     low h = e ∙ after_within (subst (λ (x : LongAfter). x.value ≤ m) e h)
 
-    high : m < r.value → long_to none ≡ long_to limited
+    high : m < r.value → long_to None ≡ long_to limited
     high h = after_above (subst (λ (x : LongAfter). m < x.value) e h)
 
     pub byte_low : r.value ≤ m → as_byte r ≡ byte_to limited
     byte_low h = ap (λ (x : LongAfter). as_byte x) (low h) ∙ byte_as limited
 
-    pub byte_high : m < r.value → byte_to none ≡ byte_to limited
-    byte_high h = sym (byte_as none) ∙ ap (λ (x : LongAfter). as_byte x) (high h) ∙ byte_as limited
+    pub byte_high : m < r.value → byte_to None ≡ byte_to limited
+    byte_high h = sym (byte_as None) ∙ ap (λ (x : LongAfter). as_byte x) (high h) ∙ byte_as limited
 
     pub word_low : r.value ≤ m → as_word r ≡ word_to limited
     word_low h = ap (λ (x : LongAfter). as_word x) (low h) ∙ word_as limited
 
-    pub word_high : m < r.value → word_to none ≡ word_to limited
-    word_high h = sym (word_as none) ∙ ap (λ (x : LongAfter). as_word x) (high h) ∙ word_as limited
+    pub word_high : m < r.value → word_to None ≡ word_to limited
+    word_high h = sym (word_as None) ∙ ap (λ (x : LongAfter). as_word x) (high h) ∙ word_as limited
 
 -- ---- the sign
 
 abbrev minus_of : LongAfter → NumberAfter
-minus_of u = cond (leb u.value (2 ^ 63)) (number_to (some (neg_ℤ (pos u.value), u.end))) (number_to none)
+minus_of u = cond (leb u.value (2 ^ 63)) (number_to (Some (neg_ℤ (pos u.value), u.end))) (number_to None)
 
 abbrev plus_of : LongAfter → NumberAfter
-plus_of u = cond (leb u.value (2 ^ 63 - 1)) (number_to (some (pos u.value, u.end))) (number_to none)
+plus_of u = cond (leb u.value (2 ^ 63 - 1)) (number_to (Some (pos u.value, u.end))) (number_to None)
 
 module _ (at : ℕ) (f : List ℕ) where
   minus_to : (r : Option ℕ) → minus_of (long_to (ending at f r)) ≡ number_to (ending at f (minus (at_most (2 ^ 63) r)))
   unfolding long_to number_to ending minus at_most given
-  minus_to none = refl
-  minus_to (some v) = (elim (leb v (2 ^ 63)) as (λ t. cond t (number_to (some (neg_ℤ (pos v), at + length f))) (number_to none) ≡ number_to (ending at f (minus (given t (some v))))) [ true ↦ refl | false ↦ refl ])
+  minus_to None = refl
+  minus_to (Some v) = (elim (leb v (2 ^ 63)) as (λ t. cond t (number_to (Some (neg_ℤ (pos v), at + length f))) (number_to None) ≡ number_to (ending at f (minus (given t (Some v))))) [ true ↦ refl | false ↦ refl ])
 
   plus_to : (r : Option ℕ) → plus_of (long_to (ending at f r)) ≡ number_to (ending at f (plus (at_most (2 ^ 63 - 1) r)))
   unfolding long_to number_to ending plus at_most given
-  plus_to none = refl
-  plus_to (some v) = (elim (leb v (2 ^ 63 - 1)) as (λ t. cond t (number_to (some (pos v, at + length f))) (number_to none) ≡ number_to (ending at f (plus (given t (some v))))) [ true ↦ refl | false ↦ refl ])
+  plus_to None = refl
+  plus_to (Some v) = (elim (leb v (2 ^ 63 - 1)) as (λ t. cond t (number_to (Some (pos v, at + length f))) (number_to None) ≡ number_to (ending at f (plus (given t (Some v))))) [ true ↦ refl | false ↦ refl ])
 
 some_head : (f : List ℕ) → get_or f 0 0 ≡ 45 → 0 < length f
 some_head [] e = absurd (omega (arith, e))
 some_head (b ∷ f) e = omega arith
 
 module _ (nl : Bool) (s : List ℕ) (i : ℕ) where
-  pub number_none : length s ≤ i → number_to none ≡ number_to (field_from (λ f. read_signed f) nl i s)
+  pub number_none : length s ≤ i → number_to None ≡ number_to (field_from (λ f. read_signed f) nl i s)
   unfolding field_from ending
   number_none h = rw (signed_none (field_in nl (drop i s)) (ap (λ f. length f) (in_none nl s i h)))
 
@@ -401,20 +401,20 @@ line_first (b ∷ s) = (elim (eqb b 10) as (λ t. cond t [] (b ∷ line_in true 
 
 pub byte_found : (r : ByteAfter) (o : Option (ℕ × ℕ)) → r ≡ byte_to o → ◌≡◌ {A = ℕ × ℕ} (r.value, r.end) (found_or 0 o)
 unfolding byte_to found_or
-byte_found r none e = ap (λ (x : ByteAfter). (x.value, x.end)) e
-byte_found r (some p) e = ap (λ (x : ByteAfter). (x.value, x.end)) e
+byte_found r None e = ap (λ (x : ByteAfter). (x.value, x.end)) e
+byte_found r (Some p) e = ap (λ (x : ByteAfter). (x.value, x.end)) e
 
 pub word_found : (r : WordAfter) (o : Option (ℕ × ℕ)) → r ≡ word_to o → ◌≡◌ {A = ℕ × ℕ} (r.value, r.end) (found_or 0 o)
 unfolding word_to found_or
-word_found r none e = ap (λ (x : WordAfter). (x.value, x.end)) e
-word_found r (some p) e = ap (λ (x : WordAfter). (x.value, x.end)) e
+word_found r None e = ap (λ (x : WordAfter). (x.value, x.end)) e
+word_found r (Some p) e = ap (λ (x : WordAfter). (x.value, x.end)) e
 
 pub long_found : (r : LongAfter) (o : Option (ℕ × ℕ)) → r ≡ long_to o → ◌≡◌ {A = ℕ × ℕ} (r.value, r.end) (found_or 0 o)
 unfolding long_to found_or
-long_found r none e = ap (λ (x : LongAfter). (x.value, x.end)) e
-long_found r (some p) e = ap (λ (x : LongAfter). (x.value, x.end)) e
+long_found r None e = ap (λ (x : LongAfter). (x.value, x.end)) e
+long_found r (Some p) e = ap (λ (x : LongAfter). (x.value, x.end)) e
 
 pub number_found : (r : NumberAfter) (o : Option (ℤ × ℕ)) → r ≡ number_to o → ◌≡◌ {A = ℤ × ℕ} (r.value, r.end) (found_or (pos 0) o)
 unfolding number_to found_or
-number_found r none e = ap (λ (x : NumberAfter). (x.value, x.end)) e
-number_found r (some p) e = ap (λ (x : NumberAfter). (x.value, x.end)) e
+number_found r None e = ap (λ (x : NumberAfter). (x.value, x.end)) e
+number_found r (Some p) e = ap (λ (x : NumberAfter). (x.value, x.end)) e

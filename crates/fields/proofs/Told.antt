@@ -3,7 +3,7 @@ use Prim.Native.Nat.{ℕ, ◌≤◌, ◌<◌}
 use mathlib.Core.Path.{◌≡◌, refl, ◌∙◌, subst}
 use mathlib.Core.Bool.{Bool, false}
 use mathlib.Core.List.{List, [], ◌∷◌}
-use mathlib.Core.Option.{Option, none, some}
+use Rattle.std.specs.Prelude.{Option, None, Some}
 use native.Mathlib.Omega.{arith}
 use borrow.Author.Tests.{le-leb, lt-leb}
 use lib.ListN.{length, get_or}
@@ -26,13 +26,13 @@ only_other (b ∷ c ∷ s) e = refl
 module _ (m : ℕ) (ok : Bool) (v : ℕ) (s : List ℕ) (e : (ok, v) ≡ told_or 0 (read_unsigned s)) where
   up_to_lem : (r : Option ℕ) → (told_or 0 r).1 ≤ m → told_or 0 r ≡ told_or 0 (at_most m r)
   unfolding told_or at_most given
-  up_to_lem none h = refl
-  up_to_lem (some n) h = simp (le-leb n m h)
+  up_to_lem None h = refl
+  up_to_lem (Some n) h = simp (le-leb n m h)
 
   over : (r : Option ℕ) → m < (told_or 0 r).1 → (false, 0) ≡ told_or 0 (at_most m r)
   unfolding told_or at_most given
-  over none h = refl
-  over (some n) h = simp (lt-leb n m h)
+  over None h = refl
+  over (Some n) h = simp (lt-leb n m h)
 
   pub told_within : v ≤ m → (ok, v) ≡ told_or 0 (up_to m s)
   unfolding up_to

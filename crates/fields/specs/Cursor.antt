@@ -1,7 +1,7 @@
 -- A line read from its front: the field at a place of a text, what it spells, and where it ends. `nl`: a newline, 10, ends the line;
 -- where it is false, the text is one line.
 use Rattle.std.specs.Prelude.{ℕ, ◌+◌, ◌-◌, ◌^◌, min, Bool, cond, not, ◌&&◌, ◌||◌, List, [], ◌∷◌, eqb, leb, ℤ, pos, length, get_or, drop}
-use Rattle.std.proofs.Math.Option.{Option, none, some}
+use Rattle.std.specs.Prelude.{Option, None, Some}
 use Rattle.fields.specs.Fields.{only}
 use Rattle.fields.specs.declared.cursor.ByteAfter.{ByteAfter}
 use Rattle.fields.specs.declared.cursor.WordAfter.{WordAfter}
@@ -27,8 +27,8 @@ field_in nl (b ∷ s) = cond (eqb b 32 || ends nl b) [] (b ∷ field_in nl s)
 
 -- a value of the field f from `at` on, and the place behind the field
 unfoldable pub ending : {A : Type 0} → ℕ → List ℕ → Option A → Option (A × ℕ)
-ending at f none = none
-ending at f (some v) = some (v, at + length f)
+ending at f None = None
+ending at f (Some v) = Some (v, at + length f)
 
 -- what d makes of the field from `at` on, and where the field ends
 unfoldable pub field_from : {A : Type 0} → (List ℕ → Option A) → Bool → ℕ → List ℕ → Option (A × ℕ)
@@ -36,7 +36,7 @@ field_from d nl at s = ending at (field_in nl (drop at s)) (d (field_in nl (drop
 
 -- the field behind the space at `at`; none where no space stands there
 unfoldable pub field_after : {A : Type 0} → (List ℕ → Option A) → Bool → ℕ → List ℕ → Option (A × ℕ)
-field_after d nl at s = cond (eqb (get_or s at 0) 32) (field_from d nl (at + 1) s) none
+field_after d nl at s = cond (eqb (get_or s at 0) 32) (field_from d nl (at + 1) s) None
 
 -- whether the field behind the space at `at` is `-`, 45
 unfoldable pub dash_after : Bool → ℕ → List ℕ → Bool
@@ -53,22 +53,22 @@ letter_at at s = cond (eqb (get_or s (at + 1) 0) 32) (get_or s at 0) 0
 -- ---- as the code answers; a bad field is 0 and ends past every text
 
 unfoldable pub byte_to : Option (ℕ × ℕ) → ByteAfter
-byte_to none = record { value = 0; end = 2 ^ 64 - 1 }
-byte_to (some r) = record { value = r.0; end = r.1 }
+byte_to None = record { value = 0; end = 2 ^ 64 - 1 }
+byte_to (Some r) = record { value = r.0; end = r.1 }
 
 unfoldable pub word_to : Option (ℕ × ℕ) → WordAfter
-word_to none = record { value = 0; end = 2 ^ 64 - 1 }
-word_to (some r) = record { value = r.0; end = r.1 }
+word_to None = record { value = 0; end = 2 ^ 64 - 1 }
+word_to (Some r) = record { value = r.0; end = r.1 }
 
 unfoldable pub long_to : Option (ℕ × ℕ) → LongAfter
-long_to none = record { value = 0; end = 2 ^ 64 - 1 }
-long_to (some r) = record { value = r.0; end = r.1 }
+long_to None = record { value = 0; end = 2 ^ 64 - 1 }
+long_to (Some r) = record { value = r.0; end = r.1 }
 
 unfoldable pub number_to : Option (ℤ × ℕ) → NumberAfter
-number_to none = record { value = pos 0; end = 2 ^ 64 - 1 }
-number_to (some r) = record { value = r.0; end = r.1 }
+number_to None = record { value = pos 0; end = 2 ^ 64 - 1 }
+number_to (Some r) = record { value = r.0; end = r.1 }
 
 -- the same of any value, with z where the field is bad
 unfoldable pub found_or : {A : Type 0} → A → Option (A × ℕ) → A × ℕ
-found_or z none = (z, 2 ^ 64 - 1)
-found_or z (some r) = r
+found_or z None = (z, 2 ^ 64 - 1)
+found_or z (Some r) = r

@@ -1,6 +1,6 @@
 -- The fields of a line of text, and what one spells.
 use Rattle.std.specs.Prelude.{ℕ, ◌-◌, ◌^◌, Bool, true, false, cond, List, [], ◌∷◌, eqb, ℤ, get_or}
-use Rattle.std.proofs.Math.Option.{Option, none, some}
+use Rattle.std.specs.Prelude.{Option, None, Some}
 use Rattle.decimal.specs.Read.{at_most, read_unsigned, read_signed}
 
 -- one byte more in front of the first field
@@ -42,5 +42,5 @@ number k l = read_signed (field_at k l)
 
 -- whether a field is good, and what it spells; z where it is bad
 unfoldable pub told_or : {A : Type 0} → A → Option A → Bool × A
-told_or z none = (false, z)
-told_or z (some v) = (true, v)
+told_or z None = (false, z)
+told_or z (Some v) = (true, v)

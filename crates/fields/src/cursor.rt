@@ -2,7 +2,7 @@
 // first newline, else with the text. A field that is bad, or that isn't there, ends at NOWHERE, past every text, so that the fields behind it
 // are bad too.
 ghost use Rattle.std.specs.Prelude.{◌+◌, ◌-◌, ◌*◌, ◌^◌, ◌≤◌, ◌≡◌, cond, ◌&&◌, ◌||◌, eqb, leb, ltb, pos, neg_ℤ, length, drop};
-ghost use Rattle.std.proofs.Math.Option.{some, none};
+ghost use Rattle.std.specs.Prelude.{Some, None};
 ghost use Rattle.decimal.specs.Read.{read_on, at_most, read_unsigned, read_signed};
 ghost use Rattle.fields.specs.Fields.{up_to};
 ghost use Rattle.fields.specs.Cursor.{field_in, field_from, field_after, dash_after, is_last, letter_at, line_end, byte_to, word_to, long_to, number_to};
@@ -170,7 +170,7 @@ fn is_end(s: &[u8], i: usize, newlines: bool) -> bool
 }
 
 fn missed() -> LongAfter
-    ensures { result ≡ long_to none }
+    ensures { result ≡ long_to None }
 {
     LongAfter {
         value: 0,
@@ -179,7 +179,7 @@ fn missed() -> LongAfter
 }
 
 fn missed_number() -> NumberAfter
-    ensures { result ≡ number_to none }
+    ensures { result ≡ number_to None }
 {
     NumberAfter {
         value: 0,
@@ -202,7 +202,7 @@ fn number_from(s: &[u8], from: usize, newlines: bool) -> NumberAfter
 }
 
 fn plus(size: LongAfter) -> NumberAfter
-    ensures { result ≡ cond (leb size.value (2 ^ 63 - 1)) (number_to (some (pos size.value, size.end))) (number_to none) }
+    ensures { result ≡ cond (leb size.value (2 ^ 63 - 1)) (number_to (Some (pos size.value, size.end))) (number_to None) }
 {
     let n = size.value;
     if n <= 9223372036854775807 {
@@ -216,7 +216,7 @@ fn plus(size: LongAfter) -> NumberAfter
 
 // -n is !(n - 1), which is there for the lowest number too.
 fn minus(size: LongAfter) -> NumberAfter
-    ensures { result ≡ cond (leb size.value (2 ^ 63)) (number_to (some (neg_ℤ (pos size.value), size.end))) (number_to none) }
+    ensures { result ≡ cond (leb size.value (2 ^ 63)) (number_to (Some (neg_ℤ (pos size.value), size.end))) (number_to None) }
 {
     let n = size.value;
     if n == 0 {
@@ -280,7 +280,7 @@ fn digits_from(s: &[u8], from: usize, newlines: bool) -> LongAfter
 }
 
 fn ended(b: u8, newlines: bool, v: u64, i: usize) -> LongAfter
-    ensures { result ≡ long_to (cond (eqb b 32 || (newlines && eqb b 10)) (some (v, i)) none) }
+    ensures { result ≡ long_to (cond (eqb b 32 || (newlines && eqb b 10)) (Some (v, i)) None) }
 {
     if b == b' ' {
         return LongAfter { value: v, end: i };

@@ -3,11 +3,12 @@
 #![tactic(auto)]
 
 pub mod cursor;
+pub mod line;
 
 ghost use Rattle.std.specs.Prelude.{◌≡◌, pos, length};
 ghost use Rattle.fields.specs.Fields.{fields_of, field_at, only, byte, word, long, number, told_or};
 
-use decimal::{Signed, Unsigned, field_end, read_signed, read_unsigned};
+use decimal::{field_end, read_signed, read_unsigned};
 
 #[derive(Clone, Copy)]
 pub struct Byte {
@@ -86,8 +87,8 @@ pub fn long_at(line: &[u8], k: usize) -> Long
     let digits = span(line, k);
     let read = read_unsigned(digits);
     match read {
-        Unsigned::Value(value) => Long { ok: true, value },
-        Unsigned::Bad => Long {
+        Some(value) => Long { ok: true, value },
+        None => Long {
             ok: false,
             value: 0, // no number, or above 2^64 - 1
         },
@@ -134,8 +135,8 @@ pub fn number_at(line: &[u8], k: usize) -> Number
     let s = span(line, k);
     let read = read_signed(s);
     match read {
-        Signed::Value(value) => Number { ok: true, value },
-        Signed::Bad => Number {
+        Some(value) => Number { ok: true, value },
+        None => Number {
             ok: false,
             value: 0, // no number, or outside 64 bits
         },

@@ -1,103 +1,147 @@
--- Laws of the filter hold.
-use Prim.Native.Nat.{ℕ, zero, suc, ◌+◌, ◌*◌, ◌/◌, ◌%◌, ◌≤◌, ◌<◌, min}
+-- Laws of the filter hold: the derived order of times, and lists under a test in std's words.
+use Prim.Native.Nat.{ℕ, suc, ◌+◌, ◌*◌, ◌/◌, ◌%◌, ◌≤◌, ◌<◌, min}
 use mathlib.Core.Path.{◌≡◌, refl, sym, ap, ◌∙◌}
-use mathlib.Core.Bool.{true, false, ◌&&◌, not}
+use mathlib.Core.Bool.{Bool, true, false, cond, ◌||◌, ◌&&◌, not}
 use mathlib.Core.List.{List, [], ◌∷◌, ◌++◌, append_assoc}
 use native.Mathlib.Numerals.{add-one}
 use native.Mathlib.Omega.{arith}
-use borrow.Author.Tests.{ltb-true, lt-leb, ne_eqb}
-use lib.Dec.{T, leb, eqb}
+use borrow.Author.Tests.{ltb-true, ltb-false, leb-false}
+use lib.Dec.{leb, ltb, eqb}
 use lib.IntN.{ℤ, pos, negsuc, nat_abs}
-use lib.Signed.{lt_z, non_neg}
-use lib.ListN.{length, take, drop, set, get_or, length-append, length-take}
-use lib.Seq.{take-suc, take-set-lt, drop-cons, set_at, get_or-take, length-take-le}
+use lib.Signed.{lt_z}
+use lib.ListN.{length, take, drop, set, get_or, length-append}
+use lib.Seq.{take-suc, drop-cons, set_at, length-take-le}
 use mir.Syntax.{w32}
-use mir.Val.{SFits, to_z, of_z}
-use mir.Facts.{to_z-of_z}
-use Rattle.laws.specs.Lists.{keep, any}
-use Rattle.laws.proofs.Lists.{keep_fewer, keep_none, length_split, not_both}
-use Rattle.laws.proofs.Places.{Shifted, shifted_more, shifted_put}
-use Rattle.filter_hold.specs.declared.tbf.Carried.{Carried}
+use mir.Val.{SFits}
+use Rattle.std.specs.Prelude.{Option, Some, Result, Ok, Err}
+use Rattle.std.specs.Bool.{◌==◌}
+use Rattle.std.specs.Int.{FitsUnsignedBits}
+use Rattle.std.specs.Result.{OkIff, result_unwrap_or}
+use Rattle.std.specs.declared.cmp.Ordering.{Ordering}
+use Rattle.std.specs.declared.cmp.Ordering.TheVariants.{Less, Equal, Greater}
+use Rattle.std.specs.List.{filter, list_any, prefix_len}
+use Rattle.std.specs.Ordering.{is_some_and, is_le, partial_ordering_then, int_cmp, nat_cmp}
+use Rattle.std.proofs.lemmas.Bool.Decides.{nat_tests}
+use Rattle.laws.specs.Whole.{eq_z}
+use Rattle.laws.specs.Lists.{keep, any, index_of}
+use Rattle.laws.proofs.Lists.{keep_append, keep_fewer, length_keep}
+use Rattle.filter_hold.specs.declared.tbf.Time.{Time}
 use Rattle.filter_hold.specs.declared.tbf.Held.{Held}
-use Rattle.filter_hold.specs.declared.tbf.TbfHold.{TbfHold}
-use Rattle.filter_hold.specs.Tbf.{from_zero, time_of, whole_seconds, words, written, is_of, supersede, hold_as}
+use Rattle.filter_hold.specs.Tbf.{not_after, from_zero, time_of, is_of, follows, supersede, words, written}
 
--- what the code reads past an array's end
+-- what the code reads past a list's end
 abbrev pub free : Held
 free = record { instance = 0; item = 0; due = record { sec = pos 0; nanosec = 0 } }
 
--- ---- times
+-- ---- due times
 
--- below 0
-pub negative_zero : (z : ℤ) → lt_z z (pos 0) ≡ true → from_zero z ≡ 0
-negative_zero (pos n) e = let h = ltb-true n 0 e in omega arith
-negative_zero (negsuc n) e = refl
+-- what stands for u64::try_from(sec).unwrap_or(0)
+pub not_negative : {E : Type 0} (z : ℤ) (r : Result ℕ E) → OkIff r (FitsUnsignedBits 64 z) (nat_abs z) → SFits w32 z → result_unwrap_or r 0 ≡ from_zero z
+not_negative (pos n) (Ok x) h f = h.1
+not_negative (pos n) (Err e) h f = absurd (h (omega (arith, f.sfits)))
+not_negative (negsuc n) (Ok x) h f = absurd h.0
+not_negative (negsuc n) (Err e) h f = refl
 
-pub whole_from : (z : ℤ) → lt_z z (pos 0) ≡ false → T (non_neg z) × (nat_abs z ≡ from_zero z)
-whole_from (pos n) e = (tt, refl)
-whole_from (negsuc n) e = not_both true refl e
+-- i32::try_from(sec).unwrap_or(i32::MAX)
+pub stopped : {E : Type 0} (n : ℕ) (r : Result ℤ E) → OkIff r (SFits w32 (pos n)) (pos n) → result_unwrap_or r (pos 2147483647) ≡ pos (min n 2147483647)
+stopped n (Ok x) h = let f = h.0 in h.1 ∙ ap pos (let e : n ≡ min n 2147483647 = omega (arith, f.sfits) in e)
+stopped n (Err e) h =
+    (elim (ltb n 2147483648) as (λ b. ltb n 2147483648 ≡ b → pos 2147483647 ≡ pos (min n 2147483647)) [
+      | true ↦ λ t. absurd (h (record { sfits = omega (arith, ltb-true n 2147483648 t) }))
+      | false ↦ λ t. ap pos (let e : 2147483647 ≡ min n 2147483647 = omega (arith, ltb-false n 2147483648 t) in e)
+    ]) refl
 
-from_zero_small : (z : ℤ) → SFits w32 z → from_zero z < 2147483648
-from_zero_small (pos n) f = omega (arith, f.sfits)
-from_zero_small (negsuc n) f = omega arith
-
--- what a second of 32 bits counts from 0
-pub from_fits : (z : ℤ) (n : ℕ) → SFits w32 z → n ≡ from_zero (to_z w32 (of_z w32 z)) → (n ≡ from_zero z) × (n < 2147483648)
-from_fits z n f e =
-    let g : n ≡ from_zero z = e ∙ ap (λ y. from_zero y) (to_z-of_z f) in
-    (g, omega (arith, from_zero_small z f))
-
--- seconds and nanoseconds below one second, together a number of nanoseconds
-pub seconds_split : (s r n : ℕ) → r < 1000000000 → s * 1000000000 + r ≡ n → whole_seconds n ≡ record { sec = s; nanosec = r }
-unfolding whole_seconds
-seconds_split s r n h e =
+pub time_split : (s r n : ℕ) → r < 1000000000 → s * 1000000000 + r ≡ n → time_of n ≡ record { sec = pos (min s 2147483647); nanosec = r }
+unfolding time_of
+time_split s r n h e =
     let q : n / 1000000000 ≡ s = omega arith in
     let m : n % 1000000000 ≡ r = omega arith in
     rw (q, m)
 
-pub time_split : (s r n : ℕ) → r < 1000000000 → s * 1000000000 + r ≡ n → time_of n ≡ record { sec = pos (min s 2147483647); nanosec = r }
-unfolding time_of whole_seconds
-time_split s r n h e = ap (λ (c : Carried). record { sec = pos (min c.sec 2147483647); nanosec = c.nanosec }) (seconds_split s r n h e)
+-- ---- the order of times
 
-pub seconds_joined : (n : ℕ) (c : Carried) → c ≡ whole_seconds n → (c.sec * 1000000000 + c.nanosec ≡ n) × (c.nanosec < 1000000000)
-unfolding whole_seconds
-seconds_joined n c e =
-    let q : c.sec ≡ n / 1000000000 = ap (λ x. x.sec) e in
-    let m : c.nanosec ≡ n % 1000000000 = ap (λ x. x.nanosec) e in
-    (omega arith, omega arith)
+not_below : (s t : ℤ) → lt_z s t ≡ false → eq_z s t ≡ not (lt_z t s)
+not_below (pos a) (pos b) h = grind (arith, nat_tests)
+not_below (pos a) (negsuc b) h = refl
+not_below (negsuc a) (pos b) h = cc
+not_below (negsuc a) (negsuc b) h = grind (arith, nat_tests)
 
--- ---- the first n of an array
+at_most : (m n : ℕ) → is_le (nat_cmp m n) ≡ leb m n
+at_most m n = grind (arith, nat_tests)
 
--- nothing is taken exactly where n is 0
-pub take_none : (n : ℕ) (l : List Held) → 0 < length l → eqb n 0 ≡ eqb (length (take n l)) 0
-take_none zero l h = refl
-take_none (suc n) [] h = absurd (omega arith)
-take_none (suc n) (x ∷ l) h = ne_eqb (suc n) 0 (λ e. omega arith) ∙ sym (ne_eqb (suc (length (take n l))) 0 (λ e. omega arith))
-
--- room for one more among them: those from place i on stand one place further
-module _ {A : Type 0} (l : List A) (n : ℕ) (h : n < length l) (m : List A) where
-  pub shifted_turn : (i j : ℕ) (d : A) → i ≡ suc j → i ≤ n → Shifted (take n l) (take (n + 1) m) i → Shifted (take n l) (take (n + 1) (set m (j + 1) (get_or m j d))) j
-  shifted_turn i j d e b s =
-      rw (add-one j, take-set-lt (n + 1) m (suc j) (get_or m j d) (omega arith), ← get_or-take (n + 1) m j d (omega arith))
-      (shifted_more (take n l) (take (n + 1) m) j d (rw e at s) (omega (arith, length-take-le n l (omega arith))))
-
-  pub shifted_end : (i : ℕ) (x : A) → i ≤ n → Shifted (take n l) (take (n + 1) m) i → take (n + 1) (set m i x) ≡ take i (take n l) ++ (x ∷ drop i (take n l))
-  shifted_end i x b s = take-set-lt (n + 1) m i x (omega arith) ∙ shifted_put (take n l) (take (n + 1) m) i x s (omega (arith, length-take-le n l (omega arith)))
-
--- ---- what is held
-
-pub take_few : (h : TbfHold) → length h.held ≡ 32 → length (hold_as h) ≤ 32
-unfolding hold_as
-take_few h e = omega (arith, length-take h.len h.held)
-
--- a new instance finds all 32 places taken exactly where the others take them all
-pub full_same : (k : ℕ) (l : List Held) → length l ≤ 32 → not (any (λ x. is_of k x) l) && leb 32 (length l) ≡ leb 32 (length (supersede k l))
-unfolding supersede
-full_same k l h =
-    (elim (any (λ x. is_of k x) l) as (λ b. any (λ x. is_of k x) l ≡ b → not b && leb 32 (length l) ≡ leb 32 (length (keep (λ x. not (is_of k x)) l))) [
-      | true ↦ λ e. sym (lt-leb 32 (length (keep (λ x. not (is_of k x)) l)) (omega (arith, keep_fewer (λ x. is_of k x) l e)))
-      | false ↦ λ e. ap (λ n. leb 32 n) (let n : length l ≡ length (keep (λ x. not (is_of k x)) l) = omega (arith, length_split (λ x. is_of k x) l, ap length (keep_none (λ x. is_of k x) l e)) in n)
+-- what the derived order says
+pub before : (a b : Time) → is_some_and is_le (partial_ordering_then (Some (int_cmp a.sec b.sec)) (Some (nat_cmp a.nanosec b.nanosec))) ≡ not_after a b
+unfolding not_after
+before a b =
+    let n : Option Ordering = Some (nat_cmp a.nanosec b.nanosec) in
+    (elim (lt_z a.sec b.sec) as (λ v. lt_z a.sec b.sec ≡ v → is_some_and is_le (partial_ordering_then (Some (cond v Less (cond (lt_z b.sec a.sec) Greater Equal))) n) ≡ v || (eq_z a.sec b.sec && leb a.nanosec b.nanosec)) [
+      | true ↦ λ e. refl
+      | false ↦ λ e.
+          rw (not_below a.sec b.sec e)
+          (elim (lt_z b.sec a.sec) as (λ v. is_some_and is_le (partial_ordering_then (Some (cond v Greater Equal)) n) ≡ not v && leb a.nanosec b.nanosec) [
+            | true ↦ refl
+            | false ↦ at_most a.nanosec b.nanosec
+          ])
     ]) refl
+
+-- ---- lists
+
+module _ {A : Type 0} (p : A → Bool) where
+  pub filter_keep : (l : List A) → filter p l ≡ keep p l
+  unfolding keep
+  filter_keep [] = refl
+  filter_keep (x ∷ l) = ap (λ m. cond (p x) (x ∷ m) m) (filter_keep l)
+
+  -- one more is tested
+  pub keep_next : (l : List A) (i : ℕ) (d : A) → i < length l → keep p (take (i + 1) l) ≡ keep p (take i l) ++ cond (p (get_or l i d)) (get_or l i d ∷ []) []
+  unfolding keep
+  keep_next l i d h =
+      ap (λ j. keep p (take j l)) (add-one i)
+      ∙ ap (λ x. keep p x) (take-suc l i d h)
+      ∙ keep_append p (take i l) (get_or l i d ∷ [])
+
+pub held_any : (k : ℕ) (l : List Held) → list_any (λ x. x.instance == k) l ≡ any (λ x. is_of k x) l
+unfolding any is_of
+held_any k [] = refl
+held_any k (x ∷ l) = let e : (x.instance == k) ≡ eqb k x.instance = grind (arith, nat_tests) in rw (e, held_any k l)
+
+-- ---- a new instance among 32
+
+pub full_at : (n : ℕ) → n ≤ 32 → (n == 32) ≡ leb 32 n
+full_at n h = grind (arith, nat_tests)
+
+-- a replacement isn't refused
+pub replaces : (k : ℕ) (l : List Held) → list_any (λ x. x.instance == k) l ≡ true → not (any (λ x. is_of k x) l) && leb 32 (length l) ≡ false
+replaces k l e = ap (λ b. not b && leb 32 (length l)) (sym (held_any k l) ∙ e)
+
+-- nor a sample where fewer are held
+pub few : (k : ℕ) (l : List Held) → length l ≤ 32 → (length l == 32) ≡ false → not (any (λ x. is_of k x) l) && leb 32 (length l) ≡ false
+few k l h e =
+    ap (λ b. not (any (λ x. is_of k x) l) && b) (sym (full_at (length l) h) ∙ e)
+    ∙ elim (any (λ x. is_of k x) l) as (λ b. not b && false ≡ false) [ true ↦ refl | false ↦ refl ]
+
+-- one that isn't refused has room
+pub room : (k : ℕ) (l : List Held) → length l ≤ 32 → not (any (λ x. is_of k x) l) && leb 32 (length l) ≡ false → length (supersede k l) < 32
+unfolding supersede
+room k l h =
+    (elim (any (λ x. is_of k x) l) as (λ b. any (λ x. is_of k x) l ≡ b → not b && leb 32 (length l) ≡ false → length (keep (λ x. not (is_of k x)) l) < 32) [
+      | true ↦ λ e t. omega (arith, keep_fewer (λ x. is_of k x) l e)
+      | false ↦ λ e t. omega (arith, length_keep (λ x. not (is_of k x)) l, leb-false 32 (length l) t)
+    ]) refl
+
+-- ---- the place of a sample
+
+not_larger : (k j : ℕ) → leb j k ≡ not (ltb k j)
+not_larger k j = grind (arith, nat_tests)
+
+-- the first of a larger instance stands behind those that are not larger
+pub place_index : (k : ℕ) (l : List Held) → prefix_len (λ x. leb x.instance k) l ≡ index_of (λ x. follows k x) l
+unfolding index_of follows
+place_index k [] = refl
+place_index k (x ∷ l) =
+    ap (λ n. cond (leb x.instance k) (1 + n) 0) (place_index k l)
+    ∙ ap (λ b. cond b (1 + index_of (λ x. follows k x) l) 0) (not_larger k x.instance)
+    ∙ elim (ltb k x.instance) as (λ b. cond (not b) (1 + index_of (λ x. follows k x) l) 0 ≡ cond b 0 (suc (index_of (λ x. follows k x) l))) [ true ↦ refl | false ↦ omega arith ]
 
 -- ---- the words of samples
 
@@ -135,12 +179,12 @@ written_more l x out h =
     ∙ ap (λ n. words (l ++ (x ∷ [])) ++ drop n out) (sym e)
 
 -- one sample more of an array is written
-pub written_at : (held : List Held) (out₀ out : List ℕ) (i : ℕ) → out ≡ written (take i held) out₀ → i < length held → i * 2 + 2 ≤ length out₀
-    → set (set out (i * 2) (get_or held i free).instance) (i * 2 + 1) (get_or held i free).item ≡ written (take (i + 1) held) out₀
-written_at held out₀ out i e h k =
+pub written_at : (held : List Held) (out₀ out : List ℕ) (i : ℕ) (d : Held) → out ≡ written (take i held) out₀ → i < length held → i * 2 + 2 ≤ length out₀
+    → set (set out (i * 2) (get_or held i d).instance) (i * 2 + 1) (get_or held i d).item ≡ written (take (i + 1) held) out₀
+written_at held out₀ out i d e h k =
     let n : length (take i held) ≡ i = length-take-le i held (omega arith) in
-    let x : Held = get_or held i free in
+    let x : Held = get_or held i d in
     ap (λ o. set (set o (i * 2) x.instance) (i * 2 + 1) x.item) e
     ∙ ap (λ j. set (set (written (take i held) out₀) (j * 2) x.instance) (j * 2 + 1) x.item) (sym n)
     ∙ written_more (take i held) x out₀ (omega arith)
-    ∙ ap (λ l. written l out₀) (sym (ap (λ j. take j held) (add-one i) ∙ take-suc held i free h))
+    ∙ ap (λ l. written l out₀) (sym (ap (λ j. take j held) (add-one i) ∙ take-suc held i d h))

@@ -14,16 +14,7 @@ use Rattle.laws.proofs.Lists.{and_true, and_left, and_right, all_imp, all_keep, 
 use Rattle.filter_hold.specs.declared.tbf.Time.{Time}
 use Rattle.filter_hold.specs.declared.tbf.Separation.{Separation}
 use Rattle.filter_hold.specs.declared.tbf.Held.{Held}
-use Rattle.filter_hold.specs.declared.tbf.TbfHold.{TbfHold}
-use Rattle.filter_hold.specs.Tbf.{hold_as, fresh_hold, cleared, rising, follows, is_of, insert, supersede, hold, due_at, not_due_at, not_after, take_due, time_after, nothing}
-
-pub fresh_nothing : hold_as fresh_hold ≡ nothing
-unfolding fresh_hold hold_as
-fresh_nothing = refl
-
-pub cleared_nothing : (h : TbfHold) → hold_as (cleared h) ≡ nothing
-unfolding cleared hold_as
-cleared_nothing h = refl
+use Rattle.filter_hold.specs.Tbf.{rising, follows, is_of, insert, supersede, hold, due_at, not_due_at, not_after, take_due, time_after, nothing}
 
 pub rising_nothing : rising nothing ≡ true
 unfolding rising
@@ -39,7 +30,7 @@ rising_keep p (x ∷ l) h =
       | false ↦ rising_keep p l t
     ])
 
-insert_step : (h x : Held) (l : List Held) → insert h (x ∷ l) ≡ cond (follows h.instance x) (h ∷ x ∷ l) (x ∷ insert h l)
+pub insert_step : (h x : Held) (l : List Held) → insert h (x ∷ l) ≡ cond (follows h.instance x) (h ∷ x ∷ l) (x ∷ insert h l)
 unfolding insert index_of
 insert_step h x l = (elim (follows h.instance x) as (λ b. take (cond b 0 (suc (index_of (λ x. follows h.instance x) l))) (x ∷ l) ++ (h ∷ drop (cond b 0 (suc (index_of (λ x. follows h.instance x) l))) (x ∷ l)) ≡ cond b (h ∷ x ∷ l) (x ∷ (take (index_of (λ x. follows h.instance x) l) l ++ (h ∷ drop (index_of (λ x. follows h.instance x) l) l)))) [ true ↦ refl | false ↦ refl ])
 

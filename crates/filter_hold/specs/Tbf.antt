@@ -1,23 +1,13 @@
 -- The filter hold (document 01, "Operations: Filter hold" and "Gate, marker, scopes, filter hold"; DDS 1.4 §2.2.3.12).
 use Prim.{Unit, tt}
-use Rattle.std.specs.Prelude.{ℕ, ◌+◌, ◌*◌, ◌/◌, ◌%◌, ◌≤◌, min, ◌≡◌, Bool, true, ◌&&◌, ◌||◌, not, cond, List, [], ◌∷◌, ◌++◌, ℤ, pos, negsuc, ltb, leb, eqb, length, take, drop, replicate}
+use Rattle.std.specs.Prelude.{ℕ, ◌+◌, ◌*◌, ◌/◌, ◌%◌, min, Bool, true, ◌&&◌, ◌||◌, not, cond, List, [], ◌∷◌, ◌++◌, ℤ, pos, negsuc, ltb, leb, eqb, length, take, drop}
 use Rattle.std.specs.Int.Signed.{lt_z}
 use Rattle.laws.specs.Answer.{Answer, refused, answered}
 use Rattle.laws.specs.Whole.{eq_z}
 use Rattle.laws.specs.Lists.{keep, all, any, index_of}
 use Rattle.filter_hold.specs.declared.tbf.Time.{Time}
 use Rattle.filter_hold.specs.declared.tbf.Separation.{Separation}
-use Rattle.filter_hold.specs.declared.tbf.Carried.{Carried}
 use Rattle.filter_hold.specs.declared.tbf.Held.{Held}
-use Rattle.filter_hold.specs.declared.tbf.TbfHold.{TbfHold}
-use Rattle.filter_hold.specs.declared.tbf.HoldAnswer.{HoldAnswer}
-use Rattle.filter_hold.specs.declared.tbf.HoldAnswer.TheVariants as A
-use Rattle.filter_hold.specs.declared.tbf.Holding.{Holding}
-use Rattle.filter_hold.specs.declared.tbf.DueAnswer.{DueAnswer}
-use Rattle.filter_hold.specs.declared.tbf.DueAnswer.TheVariants as D
-use Rattle.filter_hold.specs.declared.tbf.Taking.{Taking}
-use Rattle.filter_hold.specs.declared.tbf.Asked.{Asked}
-use Rattle.filter_hold.specs.declared.tbf.Asked.TheVariants as Q
 
 -- ---- times
 
@@ -37,10 +27,6 @@ time_of total = record { sec = pos (min (total / 1000000000) 2147483647); nanose
 -- at + separation, in whole nanoseconds
 unfoldable pub time_after : Time → Separation → Time
 time_after at s = time_of (from_zero at.sec * 1000000000 + at.nanosec + (s.sec * 1000000000 + s.nanosec))
-
--- whole seconds, and the nanoseconds left
-unfoldable pub whole_seconds : ℕ → Carried
-whole_seconds n = record { sec = n / 1000000000; nanosec = n % 1000000000 }
 
 -- ---- what is held: at most one sample of an instance, in the order of the instances
 
@@ -95,44 +81,3 @@ unfoldable pub take_due : Time → List Held → List ℕ → Answer ℕ × List
 take_due t l out =
     cond (ltb (length out / 2) (length (due_at t l))) (refused 5, l, out)
     (answered (length (due_at t l)), not_due_at t l, written (due_at t l) out)
-
--- ---- what the code's records stand for, with document 01's number and values of each case
-
--- the first len of the 32 places; what stands in those behind is free, but where a call below says it
-unfoldable pub hold_as : TbfHold → List Held
-hold_as h = take h.len h.held
-
-unfoldable pub fresh_hold : TbfHold
-fresh_hold = record { len = 0; held = replicate 32 (record { instance = 0; item = 0; due = record { sec = pos 0; nanosec = 0 } }) }
-
--- no place is held, and all keep what stands in them
-unfoldable pub cleared : TbfHold → TbfHold
-cleared h = record { len = 0; held = h.held }
-
-unfoldable pub hold_answer_as : HoldAnswer → Answer (Unit {0})
-hold_answer_as A.Held = answered tt
-hold_answer_as A.BadSeparation = refused 10
-hold_answer_as A.Full = refused 8
-
-unfoldable pub holding_as : Holding → Answer (Unit {0}) × List Held
-holding_as r = (hold_answer_as r.answer, hold_as r.hold)
-
-unfoldable pub due_answer_as : DueAnswer → Answer ℕ
-due_answer_as (D.Taken n) = answered n
-due_answer_as D.ListTooShort = refused 5
-
--- with the list after the call
-unfoldable pub taking_as : Taking → List ℕ → Answer ℕ × List Held × List ℕ
-taking_as r out = (due_answer_as r.answer, hold_as r.hold, out)
-
-unfoldable pub asked_for : Asked → Held → Bool
-asked_for (Q.OfOthers k) x = not (is_of k x)
-asked_for (Q.Due t) x = not_after x.due t
-asked_for (Q.NotDue t) x = not (not_after x.due t)
-
--- n are held
-pub record HeldCount (h : TbfHold) (n : ℕ) : Type 0 where
-  pub held : hold_as h ≡ take n h.held
-  pub number : length (hold_as h) ≡ n
-  pub few : n ≤ 32
-  pub long : length h.held ≡ 32

@@ -3,20 +3,23 @@ use Prim.Native.Nat.{ℕ, suc, ◌+◌, ◌/◌}
 use mathlib.Core.Path.{◌≡◌, refl, sym, ap, ◌∙◌}
 use mathlib.Core.Bool.{Bool, true, false, ◌&&◌, not, cond}
 use mathlib.Core.List.{List, [], ◌∷◌, ◌++◌, map}
-use mathlib.Core.Option.{Option, some, none}
+use Rattle.std.specs.Prelude.{Option, Some, None, Result}
 use lib.IntN.{ℤ}
 use lib.Dec.{ltb, leb, eqb}
-use lib.ListN.{length, take}
+use lib.ListN.{length}
 use Rattle.laws.specs.Answer.{Answer, refused, answered}
 use Rattle.laws.specs.Lists.{keep, all, count}
 use Rattle.guids.specs.Guid.{Guid, same_guid}
 use Rattle.laws.proofs.Lists.{and_true, and_left, and_right, all_keep, all_both, not_both}
 use Rattle.coherent_hold.specs.Gate.{Kind, is_sample, is_lifecycle, is_end, Item, Effect, member_mark, is_member, leaves, same_mark, first_mark, count_is, passed, held_back, ended, followed, after, gated, hold_as, member_as}
 use Rattle.coherent_hold.specs.Gate as D
-use Rattle.coherent_hold.specs.declared.gate.Item as It
+use Rattle.refusals.specs.declared.Refusal.{Refusal}
+use Rattle.coherent_hold.specs.declared.items.Change.{Change}
+use Rattle.coherent_hold.specs.declared.items.Change.TheVariants as C
+use Rattle.coherent_hold.specs.declared.items.Item as It
+use Rattle.coherent_hold.specs.declared.items.Member.{Member}
+use Rattle.coherent_hold.specs.declared.hold.CoherentHold.{CoherentHold}
 use Rattle.coherent_hold.specs.declared.gate.Gated as Gd
-use Rattle.coherent_hold.specs.declared.gate.Member.{Member}
-use Rattle.coherent_hold.specs.declared.gate.CoherentHold.{CoherentHold}
 use Rattle.gate_model.specs.Source.{UserSample, alive, lifecycle, coherent_member, with, is_released, put_first, release, first_member, numbers_agree, set_is_complete, Gated, passes, or_discard, follows, ends, holds_or, gate}
 use Rattle.gate_model.specs.Claim.{sample_w, sample_of, is_full, gate_or, Call, held_after, answer_of, answers, run, kept_by, told_by, answers_by, run_by, SameRun, items_of, counted, held_in, CodeSame}
 
@@ -26,46 +29,44 @@ samples l = map (λ i. sample_of i) l
 -- ---- a member
 
 abbrev member_of : Guid → Option ℤ → Option (Guid × ℤ)
-member_of w none = none
-member_of w (some sn) = some (w, sn)
+member_of w None = None
+member_of w (Some sn) = Some (w, sn)
 
 marked : (w : Guid) (s : Option ℤ) → with w s ≡ member_of w s
-marked w none = refl
-marked w (some z) = refl
+marked w None = refl
+marked w (Some z) = refl
 
 member_k : (k : Kind) (i : Item) → i.kind ≡ k → coherent_member (sample_w k i) ≡ member_of i.writer (member_mark i)
-unfolding member_mark
-member_k is_sample i e = marked i.writer i.set ∙ ap (λ k. member_of i.writer (cond (D.ends k) none i.set)) (sym e)
-member_k is_lifecycle i e = marked i.writer i.set ∙ ap (λ k. member_of i.writer (cond (D.ends k) none i.set)) (sym e)
-member_k (is_end o c) i e = ap (λ k. member_of i.writer (cond (D.ends k) none i.set)) (sym e)
+member_k is_sample i e = marked i.writer i.set ∙ ap (λ k. member_of i.writer (cond (D.ends k) None i.set)) (sym e)
+member_k is_lifecycle i e = marked i.writer i.set ∙ ap (λ k. member_of i.writer (cond (D.ends k) None i.set)) (sym e)
+member_k (is_end o c) i e = ap (λ k. member_of i.writer (cond (D.ends k) None i.set)) (sym e)
 
 member_same : (i : Item) → coherent_member (sample_of i) ≡ member_of i.writer (member_mark i)
 unfolding sample_of
 member_same i = member_k i.kind i refl
 
 -- of a member the mark is its set
-mark_k : (i : Item) (b : Bool) (s : Option ℤ) → D.present (cond b none s) ≡ true → cond b none s ≡ s
+mark_k : (i : Item) (b : Bool) (s : Option ℤ) → D.present (cond b None s) ≡ true → cond b None s ≡ s
 mark_k i true s h = not_both false h refl
 mark_k i false s h = refl
 
 mark_same : (i : Item) → is_member i ≡ true → member_mark i ≡ i.set
-unfolding is_member member_mark
+unfolding is_member
 mark_same i h = mark_k i (D.ends i.kind) i.set h
 
 -- ---- release
 
 leaves_s : (w g : Guid) (n s : Option ℤ) → D.present s ≡ true → is_released w n (member_of g s) ≡ same_guid w g && not (same_mark n s)
-leaves_s w g none none h = not_both false h refl
-leaves_s w g (some x) none h = not_both false h refl
-leaves_s w g none (some z) h = refl
-leaves_s w g (some x) (some z) h = refl
+leaves_s w g None None h = not_both false h refl
+leaves_s w g (Some x) None h = not_both false h refl
+leaves_s w g None (Some z) h = refl
+leaves_s w g (Some x) (Some z) h = refl
 
 set_present : (i : Item) → is_member i ≡ true → D.present i.set ≡ true
 unfolding is_member
 set_present i h = sym (ap (λ s. D.present s) (mark_same i h)) ∙ h
 
 leaves_same : (w : Guid) (n : Option ℤ) (i : Item) → is_member i ≡ true → is_released w n (coherent_member (sample_of i)) ≡ leaves w n i
-unfolding leaves
 leaves_same w n i h = ap (λ u. is_released w n u) (member_same i ∙ ap (λ s. member_of i.writer s) (mark_same i h)) ∙ leaves_s w i.writer n i.set (set_present i h)
 
 put_same : (b : Bool) (i : Item) (l m : List Item) → put_first b (sample_of i) (samples l, samples m) ≡ (samples (cond b (i ∷ l) l), samples (cond (not b) (i ∷ m) m))
@@ -94,12 +95,12 @@ samples_snoc [] i = refl
 samples_snoc (j ∷ l) i = ap (λ r. sample_of j ∷ r) (samples_snoc l i)
 
 numbers_same : (n : ℕ) (g : Guid) (s o : Option ℤ) → numbers_agree n (member_of g s) o ≡ count_is n s o
-numbers_same n g none o = refl
-numbers_same n g (some z) none = refl
-numbers_same n g (some z) (some y) = refl
+numbers_same n g None o = refl
+numbers_same n g (Some z) None = refl
+numbers_same n g (Some z) (Some y) = refl
 
 first_same : (l : List Item) (o : Option ℤ) → all (λ i. is_member i) l ≡ true → numbers_agree (length (samples l)) (first_member (samples l)) o ≡ count_is (length l) (first_mark l) o
-unfolding all first_mark
+unfolding all
 first_same [] o h = refl
 first_same (i ∷ l) o h =
     ap (λ n. numbers_agree n (coherent_member (sample_of i)) o) (samples_length (i ∷ l))
@@ -107,43 +108,43 @@ first_same (i ∷ l) o h =
     ∙ numbers_same (length (i ∷ l)) i.writer i.set o
 
 complete_same : (l : List Item) (o : Option ℤ) (c : Option Bool) → all (λ i. is_member i) l ≡ true → set_is_complete (samples l) o c ≡ D.set_is_complete l o c
-complete_same l o (some c) h = refl
-complete_same l o none h = first_same l o h
+complete_same l o (Some c) h = refl
+complete_same l o None h = first_same l o h
 
 discard_same : (b : Bool) (l m : List Item) → or_discard b (samples l, samples m) ≡ as_gated (ended b l m)
 discard_same true l m = refl
-discard_same false l m = ap (λ n. record { items = []; incomplete = some n; hold = samples m }) (samples_length l)
+discard_same false l m = ap (λ n. record { items = []; incomplete = Some n; hold = samples m }) (samples_length l)
 
 module _ (i : Item) (l : List Item) (h : all (λ i. is_member i) l ≡ true) where
   abbrev out : List Item
-  out = keep (λ h. leaves i.writer none h) l
+  out = keep (λ h. leaves i.writer None h) l
 
   abbrev left : List Item
-  left = keep (λ h. not (leaves i.writer none h)) l
+  left = keep (λ h. not (leaves i.writer None h)) l
 
   follow_snoc : samples out ++ (sample_w i.kind i ∷ []) ≡ samples (out ++ (i ∷ []))
   unfolding sample_of
   follow_snoc = samples_snoc out i
 
   follow_same : (k : Kind) → i.kind ≡ k → follows (sample_w k i) (samples out, samples left) ≡ as_gated (followed i out left)
-  follow_same k e = ap (λ k. record { items = samples out ++ (sample_w k i ∷ []); incomplete = none; hold = samples left }) (sym e) ∙ ap (λ m. record { items = m; incomplete = none; hold = samples left }) follow_snoc
+  follow_same k e = ap (λ k. record { items = samples out ++ (sample_w k i ∷ []); incomplete = None; hold = samples left }) (sym e) ∙ ap (λ m. record { items = m; incomplete = None; hold = samples left }) follow_snoc
 
   ends_k : (k : Kind) → i.kind ≡ k → ends (sample_w k i) (samples l) ≡ as_gated (after k i out left)
-  ends_k is_sample e = ap (λ p. follows (alive i.writer i.set i.item) p) (release_same i.writer none l h) ∙ follow_same is_sample e
-  ends_k is_lifecycle e = ap (λ p. follows (lifecycle i.writer i.set i.item) p) (release_same i.writer none l h) ∙ follow_same is_lifecycle e
+  ends_k is_sample e = ap (λ p. follows (alive i.writer i.set i.item) p) (release_same i.writer None l h) ∙ follow_same is_sample e
+  ends_k is_lifecycle e = ap (λ p. follows (lifecycle i.writer i.set i.item) p) (release_same i.writer None l h) ∙ follow_same is_lifecycle e
   ends_k (is_end o c) e =
-      ap (λ p. or_discard (set_is_complete p.0 o c) p) (release_same i.writer none l h)
-      ∙ ap (λ b. or_discard b (samples out, samples left)) (complete_same out o c (all_keep (λ i. is_member i) (λ h. leaves i.writer none h) l h))
+      ap (λ p. or_discard (set_is_complete p.0 o c) p) (release_same i.writer None l h)
+      ∙ ap (λ b. or_discard b (samples out, samples left)) (complete_same out o c (all_keep (λ i. is_member i) (λ h. leaves i.writer None h) l h))
       ∙ discard_same (D.set_is_complete out o c) out left
 
   abbrev samples_of_kind : Kind → List UserSample
   samples_of_kind k = samples (cond (D.ends k) [] (i ∷ []))
 
   passes_k : (k : Kind) → i.kind ≡ k → passes (sample_w k i) (samples l) ≡ as_gated (passed i l)
-  unfolding passed sample_of
-  passes_k is_sample e = ap (λ k. record { items = sample_w k i ∷ []; incomplete = none; hold = samples l }) (sym e) ∙ ap (λ k. record { items = samples_of_kind k; incomplete = none; hold = samples l }) (sym e)
-  passes_k is_lifecycle e = ap (λ k. record { items = sample_w k i ∷ []; incomplete = none; hold = samples l }) (sym e) ∙ ap (λ k. record { items = samples_of_kind k; incomplete = none; hold = samples l }) (sym e)
-  passes_k (is_end o c) e = ap (λ k. record { items = samples_of_kind k; incomplete = none; hold = samples l }) (sym e)
+  unfolding sample_of
+  passes_k is_sample e = ap (λ k. record { items = sample_w k i ∷ []; incomplete = None; hold = samples l }) (sym e) ∙ ap (λ k. record { items = samples_of_kind k; incomplete = None; hold = samples l }) (sym e)
+  passes_k is_lifecycle e = ap (λ k. record { items = sample_w k i ∷ []; incomplete = None; hold = samples l }) (sym e) ∙ ap (λ k. record { items = samples_of_kind k; incomplete = None; hold = samples l }) (sym e)
+  passes_k (is_end o c) e = ap (λ k. record { items = samples_of_kind k; incomplete = None; hold = samples l }) (sym e)
 
   whole_ends : ends (sample_of i) (samples l) ≡ as_gated (after i.kind i out left)
   unfolding sample_of
@@ -153,17 +154,17 @@ module _ (i : Item) (l : List Item) (h : all (λ i. is_member i) l ≡ true) whe
   unfolding sample_of
   whole_passes = passes_k i.kind refl
 
-  is_member_lem : (z : ℤ) → member_mark i ≡ some z → is_member i ≡ true
+  is_member_lem : (z : ℤ) → member_mark i ≡ Some z → is_member i ≡ true
   unfolding is_member
   is_member_lem z e = ap (λ u. D.present u) e
 
   holds_k : (u : Option ℤ) → member_mark i ≡ u → holds_or (member_of i.writer u) (sample_of i) (samples l) ≡ as_gated (cond (D.present u) (held_back i l) (after i.kind i out left))
   unfolding held_back
-  holds_k none e = whole_ends
-  holds_k (some z) e =
-      ap (λ (p : List UserSample × List UserSample). record { items = p.0; incomplete = none; hold = p.1 ++ (sample_of i ∷ []) }) (release_same i.writer (some z) l h)
-      ∙ ap (λ s. record { items = samples (keep (λ h. leaves i.writer s h) l); incomplete = none; hold = samples (keep (λ h. not (leaves i.writer s h)) l) ++ (sample_of i ∷ []) }) (sym e ∙ mark_same i (is_member_lem z e))
-      ∙ ap (λ m. record { items = samples (keep (λ h. leaves i.writer i.set h) l); incomplete = none; hold = m }) (samples_snoc (keep (λ h. not (leaves i.writer i.set h)) l) i)
+  holds_k None e = whole_ends
+  holds_k (Some z) e =
+      ap (λ (p : List UserSample × List UserSample). record { items = p.0; incomplete = None; hold = p.1 ++ (sample_of i ∷ []) }) (release_same i.writer (Some z) l h)
+      ∙ ap (λ s. record { items = samples (keep (λ h. leaves i.writer s h) l); incomplete = None; hold = samples (keep (λ h. not (leaves i.writer s h)) l) ++ (sample_of i ∷ []) }) (sym e ∙ mark_same i (is_member_lem z e))
+      ∙ ap (λ m. record { items = samples (keep (λ h. leaves i.writer i.set h) l); incomplete = None; hold = m }) (samples_snoc (keep (λ h. not (leaves i.writer i.set h)) l) i)
 
   pub gate_same : (a : Bool) → gate (samples l) (sample_of i) a ≡ as_gated (gated a i l)
   unfolding gate gated is_member
@@ -172,12 +173,12 @@ module _ (i : Item) (l : List Item) (h : all (λ i. is_member i) l ≡ true) whe
 
   -- the hold is of members then too
   ended_members : (b : Bool) → all (λ i. is_member i) (ended b out left).hold ≡ true
-  ended_members true = all_keep (λ i. is_member i) (λ h. not (leaves i.writer none h)) l h
-  ended_members false = all_keep (λ i. is_member i) (λ h. not (leaves i.writer none h)) l h
+  ended_members true = all_keep (λ i. is_member i) (λ h. not (leaves i.writer None h)) l h
+  ended_members false = all_keep (λ i. is_member i) (λ h. not (leaves i.writer None h)) l h
 
   after_members : (k : Kind) → all (λ i. is_member i) (after k i out left).hold ≡ true
-  after_members is_sample = all_keep (λ i. is_member i) (λ h. not (leaves i.writer none h)) l h
-  after_members is_lifecycle = all_keep (λ i. is_member i) (λ h. not (leaves i.writer none h)) l h
+  after_members is_sample = all_keep (λ i. is_member i) (λ h. not (leaves i.writer None h)) l h
+  after_members is_lifecycle = all_keep (λ i. is_member i) (λ h. not (leaves i.writer None h)) l h
   after_members (is_end o c) = ended_members (D.set_is_complete out o c)
 
   hold_members : (b : Bool) → is_member i ≡ b → all (λ i. is_member i) (cond b (held_back i l) (after i.kind i out left)).hold ≡ true
@@ -186,7 +187,7 @@ module _ (i : Item) (l : List Item) (h : all (λ i. is_member i) l ≡ true) whe
   hold_members false e = after_members i.kind
 
   gated_members : (a : Bool) → all (λ i. is_member i) (gated a i l).hold ≡ true
-  unfolding gated passed
+  unfolding gated
   gated_members true = hold_members (is_member i) refl
   gated_members false = h
 
@@ -194,11 +195,11 @@ module _ (i : Item) (l : List Item) (h : all (λ i. is_member i) l ≡ true) whe
 
   full_k : (u : Option ℤ) → member_mark i ≡ u → is_full (samples l) (member_of i.writer u) ≡ (D.present u && D.is_full l i)
   unfolding D.is_full count
-  full_k none e = refl
-  full_k (some z) e =
-      ap (λ (p : List UserSample × List UserSample). leb 64 (length (samples l)) && eqb (length p.0) 0) (release_same i.writer (some z) l h)
-      ∙ ap (λ n. leb 64 n && eqb (length (samples (keep (λ h. leaves i.writer (some z) h) l))) 0) (samples_length l)
-      ∙ ap (λ n. leb 64 (length l) && eqb n 0) (samples_length (keep (λ h. leaves i.writer (some z) h) l))
+  full_k None e = refl
+  full_k (Some z) e =
+      ap (λ (p : List UserSample × List UserSample). leb 64 (length (samples l)) && eqb (length p.0) 0) (release_same i.writer (Some z) l h)
+      ∙ ap (λ n. leb 64 n && eqb (length (samples (keep (λ h. leaves i.writer (Some z) h) l))) 0) (samples_length l)
+      ∙ ap (λ n. leb 64 (length l) && eqb n 0) (samples_length (keep (λ h. leaves i.writer (Some z) h) l))
       ∙ ap (λ s. leb 64 (length l) && eqb (length (keep (λ h. leaves i.writer s h) l)) 0) (sym e ∙ mark_same i (is_member_lem z e))
 
   full_same : is_full (samples l) (coherent_member (sample_of i)) ≡ (is_member i && D.is_full l i)
@@ -268,20 +269,19 @@ pub gate_alike : (cs : List Call) → SameRun cs
 unfolding all
 gate_alike cs = record { answers_same = answers_from cs [] refl; hold_same = run_from cs [] refl }
 
-kind_member : (b : Bool) (m : Member) → is_member (record { kind = cond b is_lifecycle is_sample; writer = m.writer; set = some m.set; item = m.item }) ≡ true
-unfolding is_member member_mark
-kind_member true m = refl
-kind_member false m = refl
+kind_member : (c : Change) (m : Member) → is_member (record { kind = D.change_as c; writer = m.writer; set = Some m.set; item = m.item }) ≡ true
+unfolding is_member
+kind_member C.Sample m = refl
+kind_member C.Lifecycle m = refl
 
 all_members : (l : List Member) → all (λ i. is_member i) (map (λ m. member_as m) l) ≡ true
-unfolding all member_as
+unfolding all
 all_members [] = refl
-all_members (m ∷ l) = and_true (is_member (member_as m)) _ (kind_member m.lifecycle m) (all_members l)
+all_members (m ∷ l) = and_true (is_member (member_as m)) _ (kind_member m.change m) (all_members l)
 
 -- every hold of the code is one of members
 pub hold_of_members : (h : CoherentHold) → all (λ i. is_member i) (hold_as h) ≡ true
-unfolding hold_as
-hold_of_members h = all_members (take h.len h.held)
+hold_of_members h = all_members h.held.items
 
 -- ---- the code
 
@@ -309,9 +309,9 @@ list_same l o (refused n) = refl
 list_same l o (answered e) = refl
 
 -- what the contract of `gate` says of a call
-pub code_same : (h : CoherentHold) (i : It.Item) (a : Bool) (o : List ℕ) (r : Gd.Gated) (p : List ℕ) → D.call_as r p ≡ D.gate_call (hold_as h) (D.item_as i) a o → CodeSame h i a o r p
-unfolding D.call_as D.gate_call held_in
-code_same h i a o r p e =
+pub code_same : (h : CoherentHold) (i : It.Item) (a : Bool) (o : List ℕ) (r : Result Gd.Gated Refusal) (k : CoherentHold) (p : List ℕ) → D.call_as r k p ≡ D.gate_call (hold_as h) (D.item_as i) a o → CodeSame h i a o r k p
+unfolding D.gate_call held_in
+code_same h i a o r k p e =
     let q : Answer Effect = D.gate (hold_as h) (D.item_as i) a (length o / 5) in
     let s : gate_or (samples (hold_as h)) (sample_of (D.item_as i)) a (length o / 5) ≡ as_answer q = call_same (D.item_as i) (hold_as h) (hold_of_members h) a (length o / 5) in
     record {

@@ -1,12 +1,13 @@
 -- What is claimed: on every list of calls the gate of the source, as Source.antt has it, and document 01's definition give the same.
 use Rattle.std.specs.Prelude.{ℕ, ◌+◌, ◌/◌, ◌≡◌, Bool, false, ◌&&◌, cond, List, [], ◌∷◌, map, ℤ, ltb, leb, eqb, length}
-use Rattle.std.proofs.Math.Option.{Option, some, none}
+use Rattle.std.specs.Prelude.{Option, Some, None, Result}
 use Rattle.laws.specs.Answer.{Answer, refused, answered}
 use Rattle.guids.specs.Guid.{Guid}
 use Rattle.coherent_hold.specs.Gate.{Kind, is_sample, is_lifecycle, is_end, Item, Effect, item_as, hold_as, answer_as, written}
 use Rattle.coherent_hold.specs.Gate as D
-use Rattle.coherent_hold.specs.declared.gate.Item as It
-use Rattle.coherent_hold.specs.declared.gate.CoherentHold.{CoherentHold}
+use Rattle.refusals.specs.declared.Refusal.{Refusal}
+use Rattle.coherent_hold.specs.declared.items.Item as It
+use Rattle.coherent_hold.specs.declared.hold.CoherentHold.{CoherentHold}
 use Rattle.coherent_hold.specs.declared.gate.Gated as Gd
 use Rattle.gate_model.specs.Source.{UserSample, alive, lifecycle, coherent_set_end, coherent_member, release, Gated, gate}
 
@@ -23,8 +24,8 @@ sample_of i = sample_w i.kind i
 
 -- 64 are held, of which a member of a set releases none
 abbrev pub is_full : List UserSample → Option (Guid × ℤ) → Bool
-is_full hold none = false
-is_full hold (some x) = leb 64 (length hold) && eqb (length (release x.0 (some x.1) hold).0) 0
+is_full hold None = false
+is_full hold (Some x) = leb 64 (length hold) && eqb (length (release x.0 (Some x.1) hold).0) 0
 
 unfoldable pub gate_or : List UserSample → UserSample → Bool → ℕ → Answer Gated
 gate_or hold item access room =
@@ -96,9 +97,10 @@ counted (answered g) = answered (length g.items, g.incomplete)
 unfoldable pub held_in : CoherentHold → List UserSample
 held_in h = map (λ i. sample_of i) (hold_as h)
 
-pub record CodeSame (h : CoherentHold) (i : It.Item) (a : Bool) (o : List ℕ) (r : Gd.Gated) (p : List ℕ) : Type 0 where
-  pub answer_is : answer_as r.answer ≡ counted (gate_or (held_in h) (sample_of (item_as i)) a (length o / 5))
-  pub hold_is : held_in r.hold ≡ held_after (held_in h) (gate_or (held_in h) (sample_of (item_as i)) a (length o / 5))
+-- the hold was h and is k then, the list was o and is p then
+pub record CodeSame (h : CoherentHold) (i : It.Item) (a : Bool) (o : List ℕ) (r : Result Gd.Gated Refusal) (k : CoherentHold) (p : List ℕ) : Type 0 where
+  pub answer_is : answer_as r ≡ counted (gate_or (held_in h) (sample_of (item_as i)) a (length o / 5))
+  pub hold_is : held_in k ≡ held_after (held_in h) (gate_or (held_in h) (sample_of (item_as i)) a (length o / 5))
   -- what is written are the items that the source returns
   pub out : List Item
   pub items_are : map (λ i. sample_of i) out ≡ items_of (gate_or (held_in h) (sample_of (item_as i)) a (length o / 5))

@@ -1,4 +1,5 @@
 -- Views of a release in words: tables with a counted length, what a row noted does to them, and the tests of a view's rows.
+use Rattle.std.specs.Prelude.{None}
 use Prim.Native.Nat.{ℕ, zero, suc, ◌+◌, ◌-◌, ◌*◌, ◌/◌, ◌%◌, ◌^◌, ◌≤◌, ◌<◌, min}
 use mathlib.Core.Path.{◌≡◌, refl, sym, subst, ap, ◌∙◌}
 use mathlib.Core.Logic.{◌≢◌}
@@ -205,9 +206,9 @@ unfolding pairs_of digests_of more
 cleared v e =
     let u : List ℕ = set (set v 0 0) 1 0 in
     let long : length u ≡ 1307 = length-set (set v 0 0) 1 0 ∙ length-set v 0 0 ∙ e in
-    let none : get_or (set u 2 0) 0 0 ≡ 0 = get_or-set_other u 2 0 0 0 (λ q. omega arith) ∙ get_or-set_other (set v 0 0) 1 0 0 0 (λ q. omega arith) ∙ get_or-set_same v 0 0 0 (omega arith) in
+    let None : get_or (set u 2 0) 0 0 ≡ 0 = get_or-set_other u 2 0 0 0 (λ q. omega arith) ∙ get_or-set_other (set v 0 0) 1 0 0 0 (λ q. omega arith) ∙ get_or-set_same v 0 0 0 (omega arith) in
     let one : get_or (set u 2 0) 1 0 ≡ 0 = get_or-set_other u 2 1 0 0 (λ q. omega arith) ∙ get_or-set_same (set v 0 0) 1 0 0 (rw length-set (omega arith)) in
-    record { pairs = rw none; digests = rw one; none_more = rw (get_or-set_same u 2 0 0 (omega arith)) }
+    record { pairs = rw None; digests = rw one; none_more = rw (get_or-set_same u 2 0 0 (omega arith)) }
 
 -- ---- a GUID whose last four bytes are zero
 

@@ -1,6 +1,6 @@
 -- What the words of a group view mean: the counted rows and the digest rows of a release, and whether it is refused whatever they are.
 use Rattle.std.specs.Prelude.{ℕ, ◌+◌, ◌-◌, ◌*◌, ◌%◌, ◌^◌, min, Bool, true, false, not, ◌||◌, cond, List, [], ◌∷◌, ◌++◌, map, ◌≡◌, eqb, ltb, take, drop, get_or, length}
-use Rattle.std.proofs.Math.Option.{Option, some, none}
+use Rattle.std.specs.Prelude.{Option, Some, None}
 use Rattle.rules.specs.Sets.{Pair}
 use Rattle.rules.specs.Commit.{DigestRow}
 use Rattle.rules.specs.Release.{View}
@@ -14,7 +14,7 @@ use Rattle.group_view.specs.declared.view.DigestRow as D
 
 -- an optional digest: 0, or one more than the digest
 abbrev pub digest_of : ℕ → Option ℕ
-digest_of w = cond (eqb w 0) none (some ((w - 1) % 2 ^ 32))
+digest_of w = cond (eqb w 0) None (Some ((w - 1) % 2 ^ 32))
 
 unfoldable pub pair_of : List ℕ → Pair
 pair_of r = record { group = guid_of (get_or r 0 0) (get_or r 1 0); writer = guid_of (get_or r 2 0) (get_or r 3 0); reader = get_or r 4 0 % 256 }

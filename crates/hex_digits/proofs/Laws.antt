@@ -3,7 +3,7 @@ use Prim.Native.Nat.{ℕ, suc, ◌+◌, ◌-◌, ◌/◌, ◌%◌, ◌<◌}
 use mathlib.Core.Path.{◌≡◌, refl}
 use mathlib.Core.Bool.{Bool, true, false}
 use mathlib.Core.List.{List, [], ◌∷◌}
-use mathlib.Core.Option.{none, some}
+use Rattle.std.specs.Prelude.{None, Some}
 use native.Mathlib.Nat.{div-add-mod'}
 use native.Mathlib.Omega.{arith}
 use borrow.Author.Tests.{ltb-true, ltb-false, le-leb, lt-leb}
@@ -11,7 +11,7 @@ use lib.Dec.{ltb}
 use lib.ListN.{get_or}
 use Rattle.hex_digits.specs.Hex.{digit_by, digit_of, hex_of, value_by, value_of, before, unhex}
 
-digit_by_lem : (n : ℕ) → n < 16 → (t : Bool) → ltb n 10 ≡ t → value_of (digit_by t n) ≡ some n
+digit_by_lem : (n : ℕ) → n < 16 → (t : Bool) → ltb n 10 ≡ t → value_of (digit_by t n) ≡ Some n
 unfolding digit_by value_of value_by
 digit_by_lem n h true e =
     let l = ltb-true n 10 e in
@@ -28,11 +28,11 @@ digit_by_lem n h false e =
       d,
     )
 
-digit_read : (n : ℕ) → n < 16 → value_of (digit_of n) ≡ some n
+digit_read : (n : ℕ) → n < 16 → value_of (digit_of n) ≡ Some n
 unfolding digit_of
 digit_read n h = digit_by_lem n h (ltb n 10) refl
 
-pub unhex_hex : (s : List ℕ) → ((i : ℕ) → get_or s i 0 < 256) → unhex (hex_of s) ≡ some s
+pub unhex_hex : (s : List ℕ) → ((i : ℕ) → get_or s i 0 < 256) → unhex (hex_of s) ≡ Some s
 unfolding hex_of unhex before
 unhex_hex [] h = refl
 unhex_hex (b ∷ s) h =
@@ -45,14 +45,14 @@ puts_byte : hex_of (15 ∷ []) ≡ 48 ∷ 102 ∷ []
 unfolding hex_of digit_of digit_by
 puts_byte = refl
 
-refuses_one : unhex (49 ∷ []) ≡ none
+refuses_one : unhex (49 ∷ []) ≡ None
 unfolding unhex
 refuses_one = refl
 
-refuses_g : unhex (48 ∷ 103 ∷ []) ≡ none
+refuses_g : unhex (48 ∷ 103 ∷ []) ≡ None
 unfolding unhex before value_of value_by
 refuses_g = refl
 
-refuses_upper_case : unhex (48 ∷ 70 ∷ []) ≡ none
+refuses_upper_case : unhex (48 ∷ 70 ∷ []) ≡ None
 unfolding unhex before value_of value_by
 refuses_upper_case = refl

@@ -1,8 +1,10 @@
 // Bytes as text, two hex digits each, in lower case.
 #![tactic(auto)]
 
+pub mod text;
+
 ghost use Rattle.std.specs.Prelude.{◌≡◌, true, ◌*◌, ◌<◌, length};
-ghost use Rattle.std.proofs.Math.Option.{some};
+ghost use Rattle.std.specs.Prelude.{Some};
 ghost use Rattle.decimal.specs.Print.{put};
 ghost use Rattle.hex_digits.specs.Hex.{digit_of, hex_of, value_of, unhex, unhex_to, are_digits, half};
 
@@ -88,7 +90,7 @@ fn are_digits(text: &[u8]) -> bool
 fn fill(text: &[u8], bytes: &mut [u8])
     requires text_len { length text.now ≡ 2 * length bytes.old }
     requires text_value { are_digits text.now ≡ true }
-    ensures { unhex text.now ≡ some bytes.new }
+    ensures { unhex text.now ≡ Some bytes.new }
 {
     let mut i = bytes.len();
     while 0 < i {

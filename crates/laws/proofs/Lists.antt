@@ -3,7 +3,7 @@ use Prim.Native.Nat.{ℕ, zero, suc, ◌+◌, ◌≤◌, ◌<◌}
 use mathlib.Core.Path.{◌≡◌, refl, sym, ap, ◌∙◌}
 use mathlib.Core.Bool.{Bool, true, false, ◌&&◌, ◌||◌, not, cond}
 use mathlib.Core.List.{List, [], ◌∷◌, ◌++◌, map, append-nil}
-use mathlib.Core.Option.{Option, some, none}
+use Rattle.std.specs.Prelude.{Option, Some, None}
 use native.Mathlib.Omega.{arith}
 use lib.ListN.{length, take, length-append, length-map}
 use Rattle.laws.specs.Lists.{keep, all, any, count, find, change, is_some}
@@ -132,12 +132,12 @@ module _ {A : Type 0} where
   pub find_any : (p : A → Bool) (l : List A) → is_some (find p l) ≡ any p l
   unfolding find any is_some
   find_any p [] = refl
-  find_any p (a ∷ l) = (elim (p a) as (λ b. is_some (cond b (some a) (find p l)) ≡ b || any p l) [ true ↦ refl | false ↦ find_any p l ])
+  find_any p (a ∷ l) = (elim (p a) as (λ b. is_some (cond b (Some a) (find p l)) ≡ b || any p l) [ true ↦ refl | false ↦ find_any p l ])
 
-  pub find_test : (p : A → Bool) (l : List A) (a : A) → find p l ≡ some a → p a ≡ true
+  pub find_test : (p : A → Bool) (l : List A) (a : A) → find p l ≡ Some a → p a ≡ true
   unfolding find
   find_test p [] a h = let z : ◌≡◌ {A = Bool} true false = cc in absurd (mathlib.Core.Bool.true≢false z)
-  find_test p (x ∷ l) a h = (elim (p x) as (λ b. p x ≡ b → cond b (some x) (find p l) ≡ some a → p a ≡ true) [ true ↦ λ e k. let z : x ≡ a = cc in rw (← z) e | false ↦ λ e k. find_test p l a k ]) refl h
+  find_test p (x ∷ l) a h = (elim (p x) as (λ b. p x ≡ b → cond b (Some x) (find p l) ≡ Some a → p a ≡ true) [ true ↦ λ e k. let z : x ≡ a = cc in rw (← z) e | false ↦ λ e k. find_test p l a k ]) refl h
 
 module _ {A B : Type 0} where
   -- ---- map
@@ -158,13 +158,13 @@ module _ {A B : Type 0} where
   all_map p f (a ∷ l) = ap (λ b. p (f a) && b) (all_map p f l)
 
   abbrev pub map_o : (A → B) → Option A → Option B
-  map_o f none = none
-  map_o f (some a) = some (f a)
+  map_o f None = None
+  map_o f (Some a) = Some (f a)
 
   pub find_map : (p : B → Bool) (f : A → B) (l : List A) → find p (map f l) ≡ map_o f (find (λ x. p (f x)) l)
   unfolding find
   find_map p f [] = refl
-  find_map p f (a ∷ l) = (elim (p (f a)) as (λ b. cond b (some (f a)) (find p (map f l)) ≡ map_o f (cond b (some a) (find (λ x. p (f x)) l))) [ true ↦ refl | false ↦ find_map p f l ])
+  find_map p f (a ∷ l) = (elim (p (f a)) as (λ b. cond b (Some (f a)) (find p (map f l)) ≡ map_o f (cond b (Some a) (find (λ x. p (f x)) l))) [ true ↦ refl | false ↦ find_map p f l ])
 
   pub count_map : (p : B → Bool) (f : A → B) (l : List A) → count p (map f l) ≡ count (λ x. p (f x)) l
   unfolding count
@@ -222,7 +222,7 @@ pub or_true_right : (a b : Bool) → b ≡ true → a || b ≡ true
 or_true_right true b e = refl
 or_true_right false b e = e
 
-pub none_not_some : {A X : Type 0} (o : Option A) (a : A) → o ≡ none → o ≡ some a → X
+pub none_not_some : {A X : Type 0} (o : Option A) (a : A) → o ≡ None → o ≡ Some a → X
 none_not_some o a p q = let z : ◌≡◌ {A = Bool} true false = cc in absurd (mathlib.Core.Bool.true≢false z)
 
 module _ {A : Type 0} where
@@ -292,7 +292,7 @@ module _ {A : Type 0} where
   unfolding all
   all_snoc p l a h e = all_append p l (a ∷ []) ∙ and_true (all p l) _ h (and_true (p a) true e refl)
 
-pub none_some : {A B : Type 0} (a : A) → none ≡ some a → B
+pub none_some : {A B : Type 0} (a : A) → None ≡ Some a → B
 none_some a h = let z : ◌≡◌ {A = Bool} true false = cc in not_both true refl z
 
 pub not_and : (a b : Bool) → b ≡ false → not (a && b) ≡ true
@@ -338,15 +338,15 @@ module _ {A : Type 0} where
   taken p r [] c h = absurd (omega (arith, count_nil p))
   taken p r (a ∷ l) c h = (elim (p a) as (λ b. p a ≡ b → count p (a ∷ l) ≡ cond b 1 0 + count p l → (a : A) × (p a ≡ true) × (r a ≡ true)) [ true ↦ λ e k. (a, e, and_left (r a) _ h) | false ↦ λ e k. taken p r l (omega arith) (and_right (r a) _ h) ]) refl (count_cons p a l)
 
-  pub find_count : (p q : A → Bool) (l : List A) (a : A) → find p l ≡ some a → q a ≡ true → 1 ≤ count q l
+  pub find_count : (p q : A → Bool) (l : List A) (a : A) → find p l ≡ Some a → q a ≡ true → 1 ≤ count q l
   unfolding find is_some
   find_count p q [] a h k = not_both false (ap (λ o. is_some o) h) refl
-  find_count p q (x ∷ l) a h k = (elim (p x) as (λ b. cond b (some x) (find p l) ≡ some a → 1 ≤ count q (x ∷ l)) [ true ↦ λ e. let z : x ≡ a = cc in omega (arith, count_cons q x l, ap {B = ℕ} (λ y. cond (q y) 1 0) z, ap {B = ℕ} (λ b. cond b 1 0) k) | false ↦ λ e. omega (arith, count_cons q x l, find_count p q l a e k) ]) h
+  find_count p q (x ∷ l) a h k = (elim (p x) as (λ b. cond b (Some x) (find p l) ≡ Some a → 1 ≤ count q (x ∷ l)) [ true ↦ λ e. let z : x ≡ a = cc in omega (arith, count_cons q x l, ap {B = ℕ} (λ y. cond (q y) 1 0) z, ap {B = ℕ} (λ b. cond b 1 0) k) | false ↦ λ e. omega (arith, count_cons q x l, find_count p q l a e k) ]) h
 
   -- one that passes is found
-  pub find_some : (p : A → Bool) (l : List A) → 1 ≤ count p l → (a : A) × (find p l ≡ some a)
+  pub find_some : (p : A → Bool) (l : List A) → 1 ≤ count p l → (a : A) × (find p l ≡ Some a)
   unfolding is_some
-  find_some p l h = (elim (find p l) as (λ o. is_some o ≡ any p l → (a : A) × (o ≡ some a)) [ none ↦ λ e. absurd (omega (arith, count_none p l (sym e))) | some a ↦ λ e. (a, refl) ]) (find_any p l)
+  find_some p l h = (elim (find p l) as (λ o. is_some o ≡ any p l → (a : A) × (o ≡ Some a)) [ None ↦ λ e. absurd (omega (arith, count_none p l (sym e))) | Some a ↦ λ e. (a, refl) ]) (find_any p l)
 
   -- a last one that fails is not kept
   pub keep_last : (p : A → Bool) (l : List A) (a : A) → p a ≡ false → keep p (l ++ (a ∷ [])) ≡ keep p l

@@ -3,7 +3,7 @@ use Prim.Native.Nat.{ℕ, zero, suc, ◌+◌, ◌-◌, ◌≤◌, ◌<◌}
 use mathlib.Core.Path.{◌≡◌, refl, sym, ap, ◌∙◌}
 use mathlib.Core.Bool.{Bool, true, false, ◌||◌, cond}
 use mathlib.Core.List.{List, [], ◌∷◌, ◌++◌}
-use mathlib.Core.Option.{some, none}
+use Rattle.std.specs.Prelude.{Some, None}
 use native.Mathlib.Omega.{arith}
 use native.Mathlib.Numerals.{add-one}
 use lib.ListN.{length, get_or, take, drop, set, length-set, length-take, drop_of_length-le}
@@ -29,15 +29,15 @@ module _ {A : Type 0} (p : A → Bool) where
   index_none [] h = refl
   index_none (a ∷ l) h = (elim (p a) as (λ b. suc (length l) ≤ cond b 0 (suc (index_of p l)) → b || any p l ≡ false) [ true ↦ λ k. absurd (omega arith) | false ↦ λ k. index_none l (omega arith) ]) h
 
-  pub find_at : (l : List A) (z : A) → index_of p l < length l → find p l ≡ some (get_or l (index_of p l) z)
+  pub find_at : (l : List A) (z : A) → index_of p l < length l → find p l ≡ Some (get_or l (index_of p l) z)
   unfolding index_of find
   find_at [] z h = absurd (omega arith)
-  find_at (a ∷ l) z h = (elim (p a) as (λ b. cond b 0 (suc (index_of p l)) < suc (length l) → cond b (some a) (find p l) ≡ some (get_or (a ∷ l) (cond b 0 (suc (index_of p l))) z)) [ true ↦ λ k. refl | false ↦ λ k. find_at l z (omega arith) ]) h
+  find_at (a ∷ l) z h = (elim (p a) as (λ b. cond b 0 (suc (index_of p l)) < suc (length l) → cond b (Some a) (find p l) ≡ Some (get_or (a ∷ l) (cond b 0 (suc (index_of p l))) z)) [ true ↦ λ k. refl | false ↦ λ k. find_at l z (omega arith) ]) h
 
-  pub find_none : (l : List A) → length l ≤ index_of p l → find p l ≡ none
+  pub find_none : (l : List A) → length l ≤ index_of p l → find p l ≡ None
   unfolding index_of find
   find_none [] h = refl
-  find_none (a ∷ l) h = (elim (p a) as (λ b. suc (length l) ≤ cond b 0 (suc (index_of p l)) → cond b (some a) (find p l) ≡ none) [ true ↦ λ k. absurd (omega arith) | false ↦ λ k. find_none l (omega arith) ]) h
+  find_none (a ∷ l) h = (elim (p a) as (λ b. suc (length l) ≤ cond b 0 (suc (index_of p l)) → cond b (Some a) (find p l) ≡ None) [ true ↦ λ k. absurd (omega arith) | false ↦ λ k. find_none l (omega arith) ]) h
 
   -- the one at that place, changed
   pub change_at : (f : A → A) (l : List A) (z : A) → index_of p l < length l → change p f l ≡ set l (index_of p l) (f (get_or l (index_of p l) z))

@@ -1,23 +1,17 @@
--- A line on its way, byte by byte and read by read.
-use Prim.Native.Nat.{ℕ, suc, ◌+◌, ◌≤◌, ◌<◌, min}
-use mathlib.Core.Path.{◌≡◌, refl, sym, ap, ◌∙◌, subst}
-use mathlib.Core.Logic.{◌⊎◌, inl, inr, ⊎_elim}
-use mathlib.Core.Bool.{true, false}
-use mathlib.Core.List.{List, [], ◌∷◌, ◌++◌, append-nil, append_assoc}
-use native.Mathlib.Nat.{min-eq_left}
-use native.Mathlib.Numerals.{add-one}
-use native.Mathlib.Omega.{arith}
-use borrow.Author.Tests.{leb-true, leb-false, ltb-true, ltb-false, lt-ltb, le-ltb, ne_eqb}
-use lib.Dec.{eqb, leb, ltb}
-use lib.ListN.{length, take, drop, get_or, set, length-append, length-take, length-drop, drop_of_length-le}
-use lib.Seq.{take_all, drop-cons, get_or-take, set_at, take-append-le, drop-append-add}
-use Rattle.decimal.specs.Split.{stop_or, before, field_end}
-use Rattle.decimal.proofs.Splitting.{before_le}
-use Rattle.line_input.specs.declared.Input.{Input}
-use Rattle.line_input.specs.declared.Line.{Line}
-use Rattle.std.specs.Prelude.{Option, None, Some}
+-- A line on its way, read by read.
+use Rattle.std.proofs.Common.{◌≡◌, ℕ, suc, ◌+◌, ◌<◌, min, Bool, true, false, List, [], ◌∷◌, ◌++◌, length, take, drop, Option, None, Some, refl, sym, ap, subst, ◌∙◌, arith, append-nil, append_assoc, ltb-true, ltb-false, lt-ltb, ne_eqb, length-append}
+use Rattle.std.specs.Prelude.{eqb, ltb, not}
 use Rattle.std.specs.Io.KnownBytes.{Consumes}
-use Rattle.line_input.specs.Input.{input_to, line_to, left, has_line, LineOf, LineRead, LineTaken}
+use Rattle.std.proofs.lemmas.List.{length-take, take_all}
+use Rattle.std.proofs.Math.Seq.{take-append-add, drop-append-add}
+use lib.ListN.{drop_of_length-le}
+use Rattle.arrayvec.specs.ArrayVec.{ArrayVec}
+use Rattle.decimal.specs.Split.{stop_or, before}
+use Rattle.decimal.proofs.Splitting.{before_le}
+use Rattle.line_input.specs.declared.Lines.{Lines}
+use Rattle.line_input.specs.declared.ahead.Ahead.{Ahead}
+use Rattle.line_input.specs.Input.{IsUnread, left, has_line, line_if, first_line, LineOf, NextLine, PartTaken}
+use Rattle.line_input.proofs.Ends.{left_on, part_on, take_to}
 
 -- ---- where the first newline of two texts stands
 
@@ -41,274 +35,204 @@ before_in (b ∷ s) t h =
       | false ↦ λ e. let p : before 10 s < length s = omega (arith, e) in omega (arith, before_in s t p)
     ]) h
 
--- ---- the line so far
+clear_on : (s t : List ℕ) → before 10 s ≡ length s → before 10 t ≡ length t → before 10 (s ++ t) ≡ length (s ++ t)
+clear_on s t h k = before_on s t h ∙ omega (arith, k, length-append s t)
 
--- nothing is read yet, as U says, or there was no newline and the chunk holds the last bytes that came
-unfoldable pub Since : Type 0 → List ℕ → List ℕ → List ℕ → ℕ → ℕ → List ℕ → ℕ → ℕ → Type 0
-Since U came s chunk₀ at₀ count₀ chunk at count =
-    ((came ≡ []) × (chunk ≡ chunk₀) × (at ≡ at₀) × (count ≡ count₀) × U)
-    ⊎ ((before 10 s < length s → ⊥) × ((earlier : List ℕ) × (came ≡ earlier ++ take count chunk)))
+-- ---- the known bytes that two reads bring
 
--- `taken` has no newline, and what is left of the chunk follows it; P is known of the bytes that came
-pub record Taking (U : Type 0) (P : List ℕ → Type 0) (chunk₀ line₀ : List ℕ) (at₀ count₀ : ℕ) (chunk line : List ℕ) (at count n : ℕ) : Type 0 where
-  pub came : List ℕ
-  pub taken : List ℕ
-  pub all : drop at₀ (take count₀ chunk₀) ++ came ≡ taken ++ drop at (take count chunk)
-  pub clear : before 10 taken ≡ length taken
-  pub long : n ≡ min (length taken) 256
-  pub text : line ≡ take n taken ++ drop n line₀
-  pub known : P came
-  pub since : Since U came (drop at₀ (take count₀ chunk₀)) chunk₀ (at₀ + length taken) count₀ chunk at count
+consumed_none : (a : Option (List ℕ)) → Consumes a a []
+consumed_none None = tt
+consumed_none (Some x) = refl
 
-pub start : (U : Type 0) (P : List ℕ → Type 0) (chunk line : List ℕ) (at count : ℕ) → U → P [] → Taking U P chunk line at count chunk line at count 0
-unfolding before Since
-start U P chunk line at count u p =
-    record {
-      came = [];
-      taken = [];
-      all = append-nil (drop at (take count chunk));
-      clear = refl;
-      long = omega arith;
-      text = refl;
-      known = p;
-      since = inl (refl, refl, omega arith, refl, u);
-    }
-
-module _
-    {U : Type 0} {P : List ℕ → Type 0} {chunk₀ line₀ : List ℕ} {at₀ count₀ : ℕ} {chunk line : List ℕ} {at count n : ℕ}
-    (t : Taking U P chunk₀ line₀ at₀ count₀ chunk line at count n) where
-  abbrev s : List ℕ
-  s = drop at₀ (take count₀ chunk₀)
-
-  next_byte : at < count → count ≤ length chunk → drop at (take count chunk) ≡ get_or chunk at 0 ∷ drop (suc at) (take count chunk)
-  next_byte a c =
-      drop-cons (take count chunk) at 0 (omega (arith, length-take count chunk))
-      ∙ ap (λ b. b ∷ drop (suc at) (take count chunk)) (get_or-take count chunk at 0 a)
-
-  -- a byte that is no newline, with room in the line or with none
-  module _ (not : get_or chunk at 0 ≡ 10 → ⊥) (a : at < count) (c : count ≤ length chunk) where
-    abbrev b : ℕ
-    b = get_or chunk at 0
-
-    abbrev more : List ℕ
-    more = t.taken ++ (b ∷ [])
-
-    more_all : s ++ t.came ≡ more ++ drop (at + 1) (take count chunk)
-    more_all = rw (t.all, next_byte a c, add-one, append_assoc)
-
-    more_clear : before 10 more ≡ length more
-    unfolding before stop_or
-    more_clear = rw (before_on t.taken (b ∷ []) t.clear, ne_eqb b 10 not, length-append t.taken (b ∷ []))
-
-    more_since : Since U t.came s chunk₀ (at₀ + length more) count₀ chunk (at + 1) count
-    unfolding Since
-    more_since =
-        ⊎_elim (λ k. inl (k.0, k.1, omega (arith, k.2, length-append t.taken (b ∷ [])), k.3, k.4)) (λ k. inr k) t.since
-
-    pub byte_put : n < 256 → n < length line₀ → Taking U P chunk₀ line₀ at₀ count₀ chunk (set line n b) (at + 1) count (n + 1)
-    byte_put h l =
-        let p : length t.taken ≡ n = omega (arith, t.long) in
-        let e = length-append t.taken (b ∷ []) in
-        let q : line ≡ t.taken ++ get_or line₀ n 0 ∷ drop (suc n) line₀ =
-        t.text ∙ rw (take_all n t.taken (omega arith), drop-cons line₀ n 0 l) in
-        record {
-          came = t.came;
-          taken = more;
-          all = more_all;
-          clear = more_clear;
-          long = omega (arith, t.long);
-          text = rw (q, set_at t.taken (get_or line₀ n 0) (drop (suc n) line₀) b n p, take_all (n + 1) more (omega arith), append_assoc, add-one);
-          known = t.known;
-          since = more_since;
-        }
-
-    pub byte_cut : 256 ≤ n → Taking U P chunk₀ line₀ at₀ count₀ chunk line (at + 1) count n
-    byte_cut h =
-        let e = length-append t.taken (b ∷ []) in
-        record {
-          came = t.came;
-          taken = more;
-          all = more_all;
-          clear = more_clear;
-          long = omega (arith, t.long);
-          text = t.text ∙ rw (take-append-le n t.taken (b ∷ []) (omega (arith, t.long)));
-          known = t.known;
-          since = more_since;
-        }
-
-  -- all of the chunk is taken: there was no newline in it
-  module _ (a : count ≤ at) where
-    taken_all : s ++ t.came ≡ t.taken
-    taken_all = t.all ∙ rw (drop_of_length-le (take count chunk) {i = at} (omega (arith, length-take count chunk)), append-nil)
-
-    not_here : before 10 s < length s → ⊥
-    not_here h =
-        omega (arith, h, before_in s t.came h, ap (λ x. before 10 x) taken_all, ap (λ x. length x) taken_all, t.clear, length-append s t.came)
-
-    pub read_on : {U' : Type 0} {Q : List ℕ → Type 0} (chunk' : List ℕ) (count' : ℕ) → Q (t.came ++ take count' chunk') → Taking U' Q chunk₀ line₀ at₀ count₀ chunk' line 0 count' n
-    unfolding Since
-    read_on chunk' count' q =
-        record {
-          came = t.came ++ take count' chunk';
-          taken = t.taken;
-          all = sym (append_assoc s t.came (take count' chunk')) ∙ rw taken_all;
-          clear = t.clear;
-          long = t.long;
-          text = t.text;
-          known = q;
-          since = inr (not_here, (t.came, refl));
-        }
-
--- ---- the line's end
-
--- what a call tells of its line: Q is known of the bytes that came, and U holds where none was read
-pub record LineTold (U : Type 0) (Q : List ℕ → Type 0) (i : Input) (chunk line : List ℕ) (r : Line) (chunk' line' : List ℕ) : Type 0 where
-  pub came : List ℕ
-  pub known : Q came
-  pub next : LineOf (left chunk i ++ came) line r chunk' line'
-  pub read : LineRead i chunk line r chunk' line'
-  pub waits : has_line chunk i ≡ true → U
-
-pub told_taken : {U : Type 0} {known known' : Option (List ℕ)} {i : Input} {chunk line : List ℕ} {r : Line} {chunk' line' : List ℕ}
-    → LineTold U (λ came. Consumes known known' came) i chunk line r chunk' line' → LineTaken known known' i chunk line r chunk' line'
-told_taken t = record { came = t.came; read = t.known; next = t.next }
-
--- the known bytes that two reads bring
-pub consumed_on : (a b c : Option (List ℕ)) (xs ys : List ℕ) → Consumes a b xs → Consumes b c ys → Consumes a c (xs ++ ys)
+consumed_on : (a b c : Option (List ℕ)) (xs ys : List ℕ) → Consumes a b xs → Consumes b c ys → Consumes a c (xs ++ ys)
 consumed_on None b c xs ys p q = tt
 consumed_on (Some x) None c xs ys p q = absurd p
 consumed_on (Some x) (Some y) None xs ys p q = absurd q
 consumed_on (Some x) (Some y) (Some z) xs ys p q = p ∙ ap (λ l. xs ++ l) q ∙ sym (append_assoc xs ys z)
 
-pub consumed_none : (a : Option (List ℕ)) → Consumes a a []
-consumed_none None = tt
-consumed_none (Some x) = refl
+-- ---- what a part says
 
--- a read that brought nothing
-pub consumed_end : (a b c : Option (List ℕ)) (xs chunk : List ℕ) (n : ℕ) → n ≡ 0 → Consumes a b xs → Consumes b c (take n chunk) → Consumes a c xs
-consumed_end a b c xs chunk n e p q =
-    subst (λ l. Consumes a c l) (append-nil xs) (consumed_on a b c xs [] p (subst (λ k. Consumes b c (take k chunk)) e q))
+unread_left : (a : Ahead) → IsUnread a → left a ≡ []
+unfolding left
+unread_left a u =
+    ap (λ n. drop a.at (take n a.chunk)) u.1 ∙ drop_of_length-le (take 0 a.chunk) {i = a.at} (omega (arith, length-take 0 a.chunk))
 
--- no more bytes are read than the chunk has
-clamped : (c : ℕ) (l : List ℕ) → length l ≡ 65536 → take (min c 65536) l ≡ take c l
-clamped c l e =
-    (elim (leb c 65536) as (λ t. leb c 65536 ≡ t → take (min c 65536) l ≡ take c l) [
-      | true ↦ λ h. rw (min-eq_left (leb-true c 65536 h))
-      | false ↦ λ h. let k = leb-false c 65536 h in rw (take_all (min c 65536) l (omega arith), take_all c l (omega arith))
-    ]) refl
+has_not : (a : Ahead) → false ≡ has_line a → before 10 (left a) ≡ length (left a)
+unfolding has_line
+has_not a e = omega (arith, ltb-false (before 10 (left a)) (length (left a)) (sym e), before_le 10 (left a))
 
-some_min : (m : ℕ) → ltb 0 (min m 256) ≡ ltb 0 m
-some_min m =
-    (elim (ltb 0 m) as (λ t. ltb 0 m ≡ t → ltb 0 (min m 256) ≡ t) [
-      | true ↦ λ h. let k = ltb-true 0 m h in lt-ltb 0 (min m 256) (omega arith)
-      | false ↦ λ h. let k = ltb-false 0 m h in le-ltb 0 (min m 256) (omega arith)
-    ]) refl
+has_one : (a : Ahead) → true ≡ has_line a → before 10 (left a) < length (left a)
+unfolding has_line
+has_one a e = ltb-true (before 10 (left a)) (length (left a)) (sym e)
 
-module _
-    (i : Input) {U : Type 0} {P : List ℕ → Type 0} {chunk₀ line₀ : List ℕ} {count₀ : ℕ} {chunk line : List ℕ} {at count n : ℕ}
-    (l : length chunk₀ ≡ 65536) (w : count₀ ≡ min i.count 65536) (t : Taking U P chunk₀ line₀ i.at count₀ chunk line at count n) where
-  abbrev from : List ℕ
-  from = drop i.at (take count₀ chunk₀)
+some_line : (t : List ℕ) → not (eqb (length (take 256 t)) 0) ≡ ltb 0 (length t)
+some_line [] = refl
+some_line (b ∷ t) = ap not (ne_eqb (suc (length (take 255 t))) 0 (λ e. omega (arith, e))) ∙ sym (lt-ltb 0 (suc (length t)) (omega arith))
 
-  left_from : left chunk₀ i ≡ from
-  unfolding left
-  left_from = rw (w, clamped i.count chunk₀ l)
+-- ---- the line so far
 
-  abbrev Here : List ℕ → Line → List ℕ → Type 0
-  Here s r chunk' =
-      before 10 s < length s
-      → (t.came ≡ []) × (chunk' ≡ chunk₀) × (r.input ≡ input_to (i.at + suc (before 10 s)) (min i.count 65536))
+-- nothing is left, and there was no newline in what came
+pub record Taking {R : Type 0} (remaining : R → Option (List ℕ)) (l m : Lines R) : Type 0 where
+  pub came : List ℕ
+  pub clear : before 10 (left l.ahead ++ came) ≡ length (left l.ahead ++ came)
+  pub text : m.line.items ≡ take 256 (left l.ahead ++ came)
+  pub known : Consumes (remaining l.reader) (remaining m.reader) came
+  pub unread : IsUnread m.ahead
 
-  abbrev Read : List ℕ → Line → List ℕ → Type 0
-  Read s r chunk' = length s ≤ before 10 s → (earlier : List ℕ) × (t.came ≡ earlier ++ take r.input.count chunk')
+-- the line of a text without a newline and one behind it
+line_whole : {R : Type 0} (t : List ℕ) (mid now : Lines R) → before 10 t ≡ length t → mid.line.items ≡ take 256 t → PartTaken mid true now
+    → LineOf (t ++ left mid.ahead) (line_if true now.line.items) now.ahead
+unfolding first_line
+line_whole {R} t mid now c e p =
+    let u = left mid.ahead in
+    let h = has_one mid.ahead p.is_whole in
+    let w = p.whole refl in
+    let b : before 10 (t ++ u) ≡ length t + before 10 u = before_on t u c in
+    let o : length t + suc (before 10 u) ≡ suc (length t + before 10 u) = omega arith in
+    let text : now.line.items ≡ take (min (before 10 (t ++ u)) 256) (t ++ u) =
+    p.line ∙ part_on mid.line.items t (take (before 10 u) u) e
+    ∙ ap (λ x. take 256 x) (sym (take-append-add t u (before 10 u)) ∙ ap (λ n. take n (t ++ u)) (sym b))
+    ∙ take_to (t ++ u) in
+    record {
+      line =
+          ap (λ x. line_if true x) text
+          ∙ ap (λ x. line_if x (take (min (before 10 (t ++ u)) 256) (t ++ u))) (sym (lt-ltb 0 (length (t ++ u)) (omega (arith, h, length-append t u))));
+      rest =
+          left_on mid.ahead now.ahead (suc (before 10 u)) w.0 w.1 w.2
+          ∙ sym (drop-append-add t u (suc (before 10 u)))
+          ∙ ap (λ n. drop n (t ++ u)) (o ∙ ap (λ n. suc n) (sym b));
+    }
 
-  line_told : {V : Type 0} {Q : List ℕ → Type 0} {r : Line} {chunk' : List ℕ} → Q t.came → LineOf (from ++ t.came) line₀ r chunk' line → Here from r chunk'
-      → Read from r chunk' → (before 10 from < length from → V) → LineTold V Q i chunk₀ line₀ r chunk' line
-  unfolding has_line
-  line_told {V} {Q} {r} {chunk'} q =
-      subst
-      (λ s. LineOf (s ++ t.came) line₀ r chunk' line → Here s r chunk' → Read s r chunk' → (before 10 s < length s → V) → LineTold V Q i chunk₀ line₀ r chunk' line)
-      left_from
-      (λ o h k u.
+module _ {R : Type 0} (remaining : R → Option (List ℕ)) (l : Lines R) where
+  abbrev s : List ℕ
+  s = left l.ahead
+
+  -- the newline is in what was left
+  pub found_here : {line₀ : ArrayVec ℕ} {now : Lines R} → line₀.items ≡ []
+      → PartTaken (record { reader = l.reader; ahead = l.ahead; line = line₀ }) true now → NextLine remaining l (line_if true now.line.items) now
+  unfolding before
+  found_here {line₀} {now} e p =
+      let mid : Lines R = record { reader = l.reader; ahead = l.ahead; line = line₀ } in
+      let o : LineOf s (line_if true now.line.items) now.ahead = line_whole [] mid now refl e p in
+      let o' = subst (λ x. LineOf x (line_if true now.line.items) now.ahead) (sym (append-nil s)) o in
+      let h = has_one l.ahead p.is_whole in
+      let w = p.whole refl in
       record {
-        came = t.came;
-        known = q;
-        next = o;
-        read = record { came = t.came; next = o; here = h; read = k };
-        waits = λ e. u (ltb-true (before 10 (left chunk₀ i)) (length (left chunk₀ i)) e);
-      })
+        read =
+            record {
+              came = [];
+              next = o';
+              here = λ _. (refl, w.0, w.1, w.2);
+              read = λ k. absurd (omega (arith, h, k));
+            };
+        taken =
+            record {
+              came = [];
+              read = subst (λ x. Consumes (remaining l.reader) (remaining x) []) (sym p.reader) (consumed_none (remaining l.reader));
+              next = o';
+            };
+        waits = λ _. p.reader;
+      }
 
-  pub line_found : {r : Line} → get_or chunk at 0 ≡ 10 → at < count → count ≤ length chunk → r ≡ line_to n true (input_to (at + 1) count) → LineTold U P i chunk₀ line₀ r chunk line
-  unfolding before stop_or line_to input_to left Since
-  line_found is a c e =
-      let tail = drop (suc at) (take count chunk) in
-      let all : from ++ t.came ≡ t.taken ++ 10 ∷ tail = t.all ∙ rw (next_byte t a c, is) in
-      let b : before 10 (t.taken ++ 10 ∷ tail) ≡ length t.taken =
-      before_on t.taken (10 ∷ tail) t.clear ∙ omega arith in
-      let o : suc (length t.taken) ≡ length t.taken + 1 = omega arith in
-      subst
-      (λ r. LineTold U P i chunk₀ line₀ r chunk line)
-      (sym e)
-      (line_told
-      t.known
-      (record {
-        fits = omega (arith, t.long);
-        long = rw (all, b) t.long;
-        more = sym (lt-ltb 0 (length (from ++ t.came)) (omega (arith, ap (λ x. length x) all, length-append t.taken (10 ∷ tail))));
-        text = rw (all, take-append-le n t.taken (10 ∷ tail) (omega (arith, t.long))) t.text;
-        rest = rw (all, b, add-one, o, drop-append-add t.taken (10 ∷ tail) 1);
-      })
-      (λ h.
-      let p : at ≡ i.at + length t.taken → at + 1 ≡ i.at + suc (before 10 from) =
-      λ q. omega (arith, q, before_in from t.came h, ap (λ x. before 10 x) all, b) in
-      ⊎_elim
-      (λ k. (k.0, k.1, ap (λ x. input_to x count) (p k.2) ∙ ap (λ x. input_to (i.at + suc (before 10 from)) x) (k.3 ∙ w)))
-      (λ k. absurd (k.0 h))
-      t.since)
-      (λ h.
-      ⊎_elim
-      (λ k.
-      let q : from ≡ t.taken ++ 10 ∷ tail = sym (append-nil from) ∙ ap (λ x. from ++ x) (sym k.0) ∙ all in
-      absurd (omega (arith, h, ap (λ x. before 10 x) q, ap (λ x. length x) q, b, length-append t.taken (10 ∷ tail))))
-      (λ k. k.1)
-      t.since)
-      (λ h. ⊎_elim (λ k. k.4) (λ k. absurd (k.0 h)) t.since))
+  pub begun : {line₀ : ArrayVec ℕ} {now : Lines R} → line₀.items ≡ []
+      → PartTaken (record { reader = l.reader; ahead = l.ahead; line = line₀ }) false now → Taking remaining l now
+  begun {line₀} {now} e p =
+      let c = has_not l.ahead p.is_whole in
+      record {
+        came = [];
+        clear = rw append-nil c;
+        text =
+            p.line ∙ part_on line₀.items [] (take (before 10 s) s) e
+            ∙ ap (λ x. take 256 x) (ap (λ n. take n s) c ∙ take_all (length s) s (omega arith) ∙ sym (append-nil s));
+        known = subst (λ x. Consumes (remaining l.reader) (remaining x) []) (sym p.reader) (consumed_none (remaining l.reader));
+        unread = p.begun refl;
+      }
 
-  pub line_last : {U' : Type 0} {Q : List ℕ → Type 0} {r : Line} (chunk' : List ℕ) → Q t.came → count ≤ at → r ≡ line_to n (ltb 0 n) (input_to 0 0)
-      → LineTold U' Q i chunk₀ line₀ r chunk' line
-  unfolding line_to input_to left
-  line_last {U'} {Q} chunk' q a e =
-      let all = taken_all t a in
-      subst
-      (λ r. LineTold U' Q i chunk₀ line₀ r chunk' line)
-      (sym e)
-      (line_told
-      q
-      (record {
-        fits = omega (arith, t.long);
-        long = rw (all, t.clear) t.long;
-        more = rw all (ap (λ x. ltb 0 x) t.long ∙ some_min (length t.taken));
-        text = rw all t.text;
-        rest = rw (all, t.clear, drop_of_length-le t.taken {i = suc (length t.taken)} (omega arith));
-      })
-      (λ h. absurd (not_here t a h))
-      (λ h. (t.came, sym (append-nil t.came)))
-      (λ h. absurd (not_here t a h)))
+  not_here : {m : Lines R} → Taking remaining l m → before 10 s < length s → ⊥
+  not_here t h = omega (arith, h, before_in s t.came h, t.clear, length-append s t.came)
 
--- ---- a whole line that is left
+  module _ {m : Lines R} (t : Taking remaining l m) (r : R) (a : Ahead) (k : Consumes (remaining m.reader) (remaining r) (left a)) where
+    abbrev mid : Lines R
+    mid = record { reader = r; ahead = a; line = m.line }
 
-pub found_here : (s : List ℕ) (at : ℕ) → ltb (field_end 10 s at) (length s) ≡ ltb (before 10 (drop at s)) (length (drop at s))
-unfolding field_end
-found_here s at =
-    let n = length-drop at s in
-    let b = before_le 10 (drop at s) in
-    (elim (ltb (before 10 (drop at s)) (length (drop at s))) as (λ t. ltb (before 10 (drop at s)) (length (drop at s)) ≡ t → ltb (min at (length s) + before 10 (drop at s)) (length s) ≡ t) [
-      | true ↦ λ h. let k = ltb-true (before 10 (drop at s)) (length (drop at s)) h in lt-ltb (min at (length s) + before 10 (drop at s)) (length s) (omega (arith, k, n, b))
-      | false ↦ λ h. let k = ltb-false (before 10 (drop at s)) (length (drop at s)) h in le-ltb (min at (length s) + before 10 (drop at s)) (length s) (omega (arith, k, n, b))
-    ]) refl
+    abbrev came' : List ℕ
+    came' = t.came ++ left a
 
-pub has_clamped : (chunk : List ℕ) (i : Input) (n : ℕ) → length chunk ≡ 65536 → n ≡ min i.count 65536 → has_line chunk (input_to i.at n) ≡ has_line chunk i
-unfolding has_line left input_to
-has_clamped chunk i n l e =
-    let p : take n chunk ≡ take i.count chunk = ap (λ k. take k chunk) e ∙ clamped i.count chunk l in
-    ap (λ t. ltb (before 10 (drop i.at t)) (length (drop i.at t))) p
+    known_on : Consumes (remaining l.reader) (remaining r) came'
+    known_on = consumed_on (remaining l.reader) (remaining m.reader) (remaining r) t.came (left a) t.known k
+
+    -- a read brought no newline
+    pub read_on : {now : Lines R} → PartTaken mid false now → Taking remaining l now
+    read_on {now} p =
+        let c = has_not a p.is_whole in
+        record {
+          came = came';
+          clear = rw (← append_assoc s t.came (left a)) (clear_on (s ++ t.came) (left a) t.clear c);
+          text =
+              p.line ∙ part_on m.line.items (s ++ t.came) (take (before 10 (left a)) (left a)) t.text
+              ∙ ap (λ x. take 256 x) (ap (λ n. (s ++ t.came) ++ take n (left a)) c ∙ ap (λ x. (s ++ t.came) ++ x) (take_all (length (left a)) (left a) (omega arith)) ∙ append_assoc s t.came (left a));
+          known = subst (λ x. Consumes (remaining l.reader) (remaining x) came') (sym p.reader) known_on;
+          unread = p.begun refl;
+        }
+
+    -- or one
+    pub found_later : {now : Lines R} → left a ≡ take a.count a.chunk → PartTaken mid true now → NextLine remaining l (line_if true now.line.items) now
+    found_later {now} e p =
+        let o = line_whole (s ++ t.came) mid now t.clear t.text p in
+        let o' : LineOf (s ++ came') (line_if true now.line.items) now.ahead =
+        subst (λ x. LineOf x (line_if true now.line.items) now.ahead) (append_assoc s t.came (left a)) o in
+        let w = p.whole refl in
+        record {
+          read =
+              record {
+                came = came';
+                next = o';
+                here = λ h. absurd (not_here t h);
+                read =
+                    λ _. (t.came, ap (λ x. t.came ++ x) (e ∙ ap (λ n. take n a.chunk) (sym w.2) ∙ ap (λ x. take now.ahead.count x) (sym w.0)));
+              };
+          taken =
+              record {
+                came = came';
+                read = subst (λ x. Consumes (remaining l.reader) (remaining x) came') (sym p.reader) known_on;
+                next = o';
+              };
+          waits = λ h. absurd (not_here t (has_one l.ahead (sym h)));
+        }
+
+    -- or no byte
+    pub at_end : IsUnread a → Taking remaining l mid
+    at_end u =
+        let e : came' ≡ t.came = ap (λ x. t.came ++ x) (unread_left a u) ∙ append-nil t.came in
+        record {
+          came = t.came;
+          clear = t.clear;
+          text = t.text;
+          known = subst (λ x. Consumes (remaining l.reader) (remaining r) x) e known_on;
+          unread = u;
+        }
+
+  -- the last line
+  pub line_last : {m : Lines R} (more : Bool) → Taking remaining l m → more ≡ not (eqb (length m.line.items) 0) → NextLine remaining l (line_if more m.line.items) m
+  unfolding first_line
+  line_last {m} more t e =
+      let x = s ++ t.came in
+      let n = before 10 x in
+      let b : more ≡ ltb 0 (length x) = e ∙ ap (λ y. not (eqb (length y) 0)) t.text ∙ some_line x in
+      let text : m.line.items ≡ take (min n 256) x = t.text ∙ ap (λ y. take 256 y) (sym (take_all n x (omega (arith, t.clear)))) ∙ take_to x in
+      let o : LineOf x (line_if more m.line.items) m.ahead =
+      record {
+        line = ap (λ y. line_if y m.line.items) b ∙ ap (λ y. line_if (ltb 0 (length x)) y) text;
+        rest = unread_left m.ahead t.unread ∙ sym (drop_of_length-le x {i = suc n} (omega (arith, t.clear)));
+      } in
+      record {
+        read =
+            record {
+              came = t.came;
+              next = o;
+              here = λ h. absurd (not_here t h);
+              read = λ _. (t.came, sym (append-nil t.came) ∙ ap (λ k. t.came ++ take k m.ahead.chunk) (sym t.unread.1));
+            };
+        taken = record { came = t.came; read = t.known; next = o };
+        waits = λ h. absurd (not_here t (has_one l.ahead (sym h)));
+      }

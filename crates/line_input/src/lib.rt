@@ -1,144 +1,98 @@
-// The lines of an input, such as standard input, whatever its length and whatever its bytes.
+// The lines of an input, such as standard input, whatever its length and whatever its bytes. std's readers of lines take memory from the
+// heap, and here there is none.
 #![tactic(auto)]
 
-ghost use Rattle.std.specs.Prelude.{◌≤◌, min, ◌≡◌, true, length, take};
-ghost use Rattle.std.specs.Io.KnownBytes.{Consumes};
-ghost use Rattle.line_input.specs.Input.{input_to, unread, has_line, line_to, LineRead, LineTaken};
+mod ahead;
 
-use decimal::field_end;
-use std::io::Read;
+use crate::ahead::Ahead;
+use arrayvec::ArrayVec;
+use std::io::{Read, Write};
 
-// The bytes that were read and not yet taken: those of the lent chunk from `at` to `count`.
-#[derive(Clone, Copy)]
-pub struct Input {
-    pub at: usize,
-    pub count: usize,
+// The reader, what was read of it and not yet taken, and the line that was taken last.
+#[derive(Drop)]
+pub struct Lines<R> {
+    reader: R,
+    ahead: Ahead,
+    line: ArrayVec<u8, 256>,
 }
 
-// A line without its newline: the first `length` bytes of the lent line. With `more` false the input has ended.
-#[derive(Clone, Copy)]
-pub struct Line {
-    pub length: usize,
-    pub more: bool,
-    pub input: Input,
-}
+impl<R> Lines<R> {
+    ghost use Rattle.std.specs.Prelude.{◌≡◌};
+    ghost use Rattle.line_input.specs.Input.{IsUnread, has_line};
 
-// Nothing is read yet.
-pub fn begin() -> Input
-    ensures { result ≡ unread }
-{
-    Input { at: 0, count: 0 }
-}
-
-// At most as many bytes as a chunk has.
-fn within(count: usize) -> usize
-    ensures { result ≡ min count 65536 }
-{
-    if count < 65536 {
-        return count;
-    }
-    65536
-}
-
-fn size(s: &[u8]) -> usize
-    ensures { result ≡ length s.now }
-{
-    s.len()
-}
-
-// Tells a caller the lists' lengths.
-fn whole(chunk: &[u8; 65536], line: &[u8; 256]) -> usize
-    ensures { (length chunk.now ≡ 65536) × (length line.now ≡ 256) }
-{
-    size(chunk);
-    size(line)
-}
-
-// Whether a whole line is left of what was read: where it is, `next_line` reads nothing.
-pub fn has_line(chunk: &[u8; 65536], input: Input) -> bool
-    ensures { result ≡ has_line chunk.now input }
-{
-    size(chunk);
-    let count = within(input.count);
-    let at = input.at;
-    line_within(chunk, at, count)
-}
-
-// Whether a newline stands among the first `count` bytes, at or behind `at`.
-fn line_within(chunk: &[u8; 65536], at: usize, count: usize) -> bool
-    requires { count ≤ 65536 }
-    ensures { result ≡ has_line chunk.now (input_to at count) }
-{
-    size(chunk);
-    let all: &[u8] = chunk;
-    let read = &all[..count];
-    field_end(read, at, b'\n') < read.len()
-}
-
-// Takes the next line of the input, and reads nothing where a whole one is left. A longer one than 256 bytes is cut to 256. So that the loop is seen to end, it counts down
-// from more reads than any line takes.
-pub fn next_line<R: Read>(
-    reader: &mut R,
-    chunk: &mut [u8; 65536],
-    input: Input,
-    line: &mut [u8; 256],
-) -> Line
-    ensures read { LineRead input chunk.old line.old result chunk.new line.new }
-    ensures taken { LineTaken (R.remaining reader.old) (R.remaining reader.new) input chunk.old line.old result chunk.new line.new }
-    ensures waits { has_line chunk.old input ≡ true → reader.new ≡ reader.old }
-{
-    whole(chunk, line);
-    let mut at = input.at;
-    let mut count = within(input.count);
-    let mut length: usize = 0;
-    let mut reads = u64::MAX;
-    loop {
-        if at < count {
-            let b = chunk[at];
-            at += 1;
-            let ends = b == b'\n';
-            if ends {
-                return line_to(length, true, at, count);
-            }
-            let fits = length < 256;
-            if fits {
-                line[length] = b;
-                length += 1;
-            }
-        } else {
-            if reads == 0 {
-                return line_to(length, 0 < length, 0, 0);
-            }
-            reads -= 1;
-            let got = read_chunk(reader, chunk);
-            if got == 0 {
-                return line_to(length, 0 < length, 0, 0); // the end, or a read that failed
-            }
-            count = got;
-            at = 0;
+    // Nothing is read yet.
+    pub fn new(reader: R) -> Self
+        ensures reader { result.reader ≡ reader }
+        ensures unread { IsUnread result.ahead }
+    {
+        Lines {
+            reader,
+            ahead: Ahead::new(),
+            line: ArrayVec::new(),
         }
     }
-}
 
-// Reads once, and answers how many bytes came to the front of the chunk: none at the input's end, or where the read fails.
-fn read_chunk<R: Read>(reader: &mut R, chunk: &mut [u8; 65536]) -> usize
-    ensures count { result ≤ 65536 }
-    ensures bytes { Consumes (R.remaining reader.old) (R.remaining reader.new) (take result chunk.new) }
-{
-    match reader.read(chunk) {
-        Ok(count) => count,
-        Err(_) => 0,
+    // Whether a whole line is left of what was read: where it is, `next` reads nothing.
+    pub fn has_line(&self) -> bool
+        ensures { result ≡ has_line self.now.ahead }
+    {
+        self.ahead.line_end().is_some()
     }
 }
 
-fn line_to(length: usize, more: bool, at: usize, count: usize) -> Line
-    ensures { result ≡ line_to length more (input_to at count) }
-{
-    let input = Input { at, count };
-    Line {
-        length,
-        more,
-        input,
+impl<R: Read> Lines<R> {
+    ghost use Rattle.std.specs.Borrow.{sem};
+    ghost use Rattle.std.specs.Io.BufRead.{Rests};
+    ghost use Rattle.line_input.specs.contracts.Lines.{the_row};
+    ghost use Rattle.line_input.specs.Input.{line_if, shown, NextLine, PartTaken};
+
+    // Takes the next line of the input, and reads nothing where a whole one is left. A longer one than 256 bytes is cut to 256.
+    pub fn next(&mut self) -> Option<&[u8]>
+        ensures* next { sem 𝓛 (Rests (the_row R.row) self.entry (λ new. NextLine R.remaining self.old (shown result) new)) }
+    {
+        if self.advance() {
+            Some(self.line.as_slice())
+        } else {
+            None
+        }
+    }
+
+    // Whether there is a next line, which it takes. So that the loop is seen to end, it counts more reads than any line takes.
+    fn advance(&mut self) -> bool
+        ensures { NextLine R.remaining self.old (line_if result self.new.line.items) self.new }
+    {
+        self.line.clear();
+        if self.take_part() {
+            return true;
+        }
+        for _ in 0..u64::MAX {
+            if !self.ahead.fill(&mut self.reader) {
+                break; // the end, or a read that failed
+            }
+            if self.take_part() {
+                return true;
+            }
+        }
+        !self.line.is_empty()
+    }
+
+    // Takes what is left of the line, as far as it is read, and answers whether its newline was there.
+    fn take_part(&mut self) -> bool
+        ensures { PartTaken self.old result self.new }
+    {
+        let left = self.ahead.left();
+        match self.ahead.line_end() {
+            Some(end) => {
+                let _fit = self.line.write(&left[..end]);
+                self.ahead.take(end + 1);
+                true
+            }
+            None => {
+                let _fit = self.line.write(left);
+                self.ahead.clear();
+                false
+            }
+        }
     }
 }
 
@@ -161,22 +115,10 @@ mod tests {
     #[test]
     fn lines_before_a_failed_read(rt: HostRuntime) {
         let text: &[u8] = b"one\n\ntwo";
-        let mut reader = text.chain(Failing);
-        let mut chunk = [0u8; 65536];
-        let mut line = [0u8; 256];
-        let mut input = begin();
-        for (length, more, first) in [
-            (3, true, b'o'),
-            (0, true, b'o'),
-            (3, true, b't'),
-            (0, false, b't'),
-            (0, false, b't'),
-        ] {
-            let next = next_line(&mut reader, &mut chunk, input, &mut line);
-            assert_eq!(rt; next.length, length);
-            assert_eq!(rt; next.more, more);
-            assert_eq!(rt; line[0], first);
-            input = next.input;
+        let mut lines = Lines::new(text.chain(Failing));
+        let expected: [Option<&[u8]>; 5] = [Some(b"one"), Some(b""), Some(b"two"), None, None];
+        for line in expected {
+            assert_eq!(rt; lines.next(), line);
         }
     }
 }

@@ -1,2 +1,2 @@
-mod Gathering
+mod Running
 mod Writing

@@ -3,7 +3,7 @@ use Prim.Native.Nat.{ℕ, zero, suc, ◌+◌, ◌%◌, ◌≤◌, ◌<◌}
 use mathlib.Core.Path.{◌≡◌, refl, sym, ap, ◌∙◌}
 use mathlib.Core.Bool.{Bool, true, false, ◌&&◌, ◌||◌, cond}
 use mathlib.Core.List.{List, [], ◌∷◌, map}
-use mathlib.Core.Option.{some}
+use Rattle.std.specs.Prelude.{Some}
 use native.Mathlib.Omega.{arith}
 use lib.Dec.{eqb, leb}
 use lib.ListN.{length, get_or, drop, set, drop_of_length-le}
@@ -96,7 +96,7 @@ module _ (g : Guid) (n : ℕ) (l : List ℕ) (b : n ≤ 512) where
   stored_all = stored_sorted l (from g n l 0) (stored_from n 0 (omega arith))
 
   -- the entries of the lowest number stand first
-  pub heads_listed : (list : List ℕ) (a m : ℕ) → Listed g list a n l → lowest_number (keep (λ e. of_group g e) (staged 0 (rows_in n l))) ≡ some m
+  pub heads_listed : (list : List ℕ) (a m : ℕ) → Listed g list a n l → lowest_number (keep (λ e. of_group g e) (staged 0 (rows_in n l))) ≡ Some m
       → heads_in m l (drop a list) ≡ head_for g m (staged 0 (rows_in n l))
   unfolding head_for
   heads_listed list a m x e =

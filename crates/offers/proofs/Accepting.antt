@@ -3,7 +3,7 @@ use Prim.Native.Nat.{ℕ, ◌+◌, ◌<◌}
 use mathlib.Core.Path.{◌≡◌, refl, sym, ap, ◌∙◌}
 use mathlib.Core.Bool.{Bool, true, false, ◌&&◌, ◌||◌, not}
 use mathlib.Core.List.{List, [], ◌∷◌}
-use mathlib.Core.Option.{some, none}
+use Rattle.std.specs.Prelude.{Some, None}
 use lib.Dec.{ltb, leb}
 use lib.ListN.{length}
 use borrow.Author.Tests.{leb-false, lt-ltb}
@@ -18,7 +18,7 @@ use Rattle.rules.proofs.Fates.{fate_joined}
 use Rattle.rules.proofs.Reached.{refusal_first, refusal_rest}
 
 -- without a set none is shared
-pub none_shares : {X : Type 0} (e : Entry X) → e.set ≡ none → (l : List (Entry X)) → any (λ h. shares e h) l ≡ false
+pub none_shares : {X : Type 0} (e : Entry X) → e.set ≡ None → (l : List (Entry X)) → any (λ h. shares e h) l ≡ false
 unfolding shares
 none_shares e c = any_empty (λ h. shares e h) (λ h. rw (c, and_never (of_group e.group h) false refl))
 
@@ -63,11 +63,11 @@ module _ {X : Type 0} (s : State X) (o : Offer X) where
   pub answered_so : (f : Fate) → answered f ≡ (offer s o).0 → Accepted s o f
   unfolding offer offer_refusal
   answered_so f = (elim (offer_refusal s o) as (λ x. offer_refusal s o ≡ x → answered f ≡ (offered x s o).0 → Accepted s o f) [
-    | some n ↦ λ e q. let z : ◌≡◌ {A = Bool} true false = cc in not_both true refl z
-    | none ↦ λ e q. let d : fate_of s o ≡ f = cc in
-        let a : refusal ((2, ninth o.group s) ∷ (3, pair33 o.group o.writer s) ∷ (4, adds (fate_of s o) s o && leb 256 (stored s)) ∷ []) ≡ none = refusal_rest 1 (ltb 7 o.reader) _ e in
-        let b : refusal ((3, pair33 o.group o.writer s) ∷ (4, adds (fate_of s o) s o && leb 256 (stored s)) ∷ []) ≡ none = refusal_rest 2 (ninth o.group s) _ a in
-        let c : refusal ((4, adds (fate_of s o) s o && leb 256 (stored s)) ∷ []) ≡ none = refusal_rest 3 (pair33 o.group o.writer s) _ b in
+    | Some n ↦ λ e q. let z : ◌≡◌ {A = Bool} true false = cc in not_both true refl z
+    | None ↦ λ e q. let d : fate_of s o ≡ f = cc in
+        let a : refusal ((2, ninth o.group s) ∷ (3, pair33 o.group o.writer s) ∷ (4, adds (fate_of s o) s o && leb 256 (stored s)) ∷ []) ≡ None = refusal_rest 1 (ltb 7 o.reader) _ e in
+        let b : refusal ((3, pair33 o.group o.writer s) ∷ (4, adds (fate_of s o) s o && leb 256 (stored s)) ∷ []) ≡ None = refusal_rest 2 (ninth o.group s) _ a in
+        let c : refusal ((4, adds (fate_of s o) s o && leb 256 (stored s)) ∷ []) ≡ None = refusal_rest 3 (pair33 o.group o.writer s) _ b in
         record {
           admitted = record { reader = refusal_first 1 (ltb 7 o.reader) _ e; group = refusal_first 2 (ninth o.group s) _ a; pair = refusal_first 3 (pair33 o.group o.writer s) _ b };
           fate = d;
@@ -78,8 +78,8 @@ module _ {X : Type 0} (s : State X) (o : Offer X) where
   pub refused_so : (n : ℕ) → refused n ≡ (offer s o).0 → (refused n, s) ≡ offer s o
   unfolding offer
   refused_so n = (elim (offer_refusal s o) as (λ x. refused n ≡ (offered x s o).0 → (refused n, s) ≡ offered x s o) [
-    | some k ↦ λ q. let e : n ≡ k = cc in ap {B = Answer Fate × State X} (λ i. (refused i, s)) e
-    | none ↦ λ q. let z : ◌≡◌ {A = Bool} true false = cc in not_both true refl z
+    | Some k ↦ λ q. let e : n ≡ k = cc in ap {B = Answer Fate × State X} (λ i. (refused i, s)) e
+    | None ↦ λ q. let z : ◌≡◌ {A = Bool} true false = cc in not_both true refl z
   ])
 
   -- ---- fates
@@ -104,8 +104,8 @@ module _ {X : Type 0} (s : State X) (o : Offer X) where
       let opened : Bool = any (λ h. shares (entry_of o) h) s.held in
       let t = fate_joined (ltb (committed_of o.group s.groups) (number o.number)) (not (is_sample_w o.what) && opened) a.fate in
       (elim o.set as (λ z. o.set ≡ z → is_some z ≡ true) [
-        | none ↦ λ e. not_both opened (and_right (not (is_sample_w o.what)) opened t) (none_shares (entry_of o) e s.held)
-        | some z ↦ λ e. refl
+        | None ↦ λ e. not_both opened (and_right (not (is_sample_w o.what)) opened t) (none_shares (entry_of o) e s.held)
+        | Some z ↦ λ e. refl
       ]) refl
 
   -- ---- room: the marks leave what is stored

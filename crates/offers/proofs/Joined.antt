@@ -1,9 +1,10 @@
 -- An end that joins its set: the mark that it takes over, and the room that its pair's earlier end leaves.
+use Rattle.std.specs.Prelude.{Some}
 use Prim.Native.Nat.{ℕ, ◌+◌, ◌≤◌, ◌<◌, min}
 use mathlib.Core.Path.{◌≡◌, refl, sym, ap, ap₂, ◌∙◌}
 use mathlib.Core.Bool.{Bool, true, false, ◌&&◌, ◌||◌, not}
 use mathlib.Core.List.{List, [], ◌∷◌, ◌++◌}
-use mathlib.Core.Option.{Option, none}
+use Rattle.std.specs.Prelude.{Option, None}
 use native.Mathlib.Omega.{arith}
 use lib.IntN.{ℤ}
 use lib.Dec.{ltb}
@@ -16,7 +17,7 @@ use Rattle.rules.specs.State.{stored}
 use Rattle.rules.specs.Offer.{entry_of, shares, replaced, marked, keep_end, join, place, is_joined}
 use Rattle.store.specs.Store.{Row, row_of, row_at, rows_in, rows_of, staged, state_of, live, row_mark}
 use Rattle.guids.specs.Keys.{key_as}
-use Rattle.store.specs.Records.{optional_as, what_as, moment_as, entry_as, row_as, fits, Asks, pair_in, Removed}
+use Rattle.store.specs.Records.{what_as, entry_as, row_as, fits, Asks, pair_in, Removed}
 use Rattle.offers.specs.Calls.{offer_as}
 use Rattle.offers.specs.Steps.{Joins, JoinsSet, Appended}
 use Rattle.store.specs.declared.entry.Entry.{Entry}
@@ -26,9 +27,7 @@ use Rattle.offers.specs.declared.call.Offer.{Offer}
 use Rattle.offers.specs.declared.join.Joining.{Joining}
 use Rattle.offers.specs.declared.join.Joining.TheVariants as J
 use Rattle.store.specs.declared.entry.SetEnd.{SetEnd}
-use Rattle.store.specs.declared.entry.Moment.{Moment}
 use Rattle.store.specs.declared.entry.What.TheVariants.{End}
-use Rattle.store.specs.declared.entry.Optional.TheVariants.{Present}
 use Rattle.laws.proofs.Lists.{and_left, any_imp, keep_fewer, length_keep}
 use Rattle.store.proofs.Queries.{index_le, find_within, find_past, staged_more, staged_same}
 use Rattle.store.proofs.RowLaws.{row_in, length_rows}
@@ -44,15 +43,15 @@ module _ (q : Query) (n i : ℕ) (l : List ℕ) (h : n ≤ 512) (e : i ≡ index
       let w : index_of (λ x. fits q x) (rows_in n l) < length (rows_in n l) = omega (arith, length_rows n l h) in
       ap (λ o. row_mark o) (find_within (λ x. fits q x) (rows_in n l) z w) ∙ ap (λ j. (get_or (rows_in n l) j z).entry.ended) (sym e) ∙ ap (λ (r : Row). r.entry.ended) (row_in n i l z b h)
 
-  pub mark_nowhere : n ≤ i → row_mark (find (λ x. fits q x) (rows_in n l)) ≡ none
+  pub mark_nowhere : n ≤ i → row_mark (find (λ x. fits q x) (rows_in n l)) ≡ None
   mark_nowhere b = ap (λ o. row_mark o) (find_past (λ x. fits q x) (rows_in n l) (omega (arith, length_rows n l h, index_le (λ x. fits q x) (rows_in n l))))
 
 -- ---- an end that joins
 
 -- the pair's kept end in the set, as the query asks for it
-pub asks_end : (q : Query) (g w : Key) (z : ℤ) (e : Entry) → key_as g ≡ e.group → key_as w ≡ e.writer → e.set ≡ Present z
+pub asks_end : (q : Query) (g w : Key) (z : ℤ) (e : Entry) → key_as g ≡ e.group → key_as w ≡ e.writer → e.set ≡ Some z
     → Asks q 1 (λ h. pair_in (key_as g) z (key_as w) e.reader false h) → Asks q 1 (λ h. replaced (entry_as e) h)
-unfolding pair_in E.is_end_of E.in_set replaced shares entry_as optional_as
+unfolding pair_in E.is_end_of E.in_set replaced shares entry_as
 asks_end q g w z e a b c h x = rw (← a, ← b, c) (h x)
 
 -- a kept end of the set is an entry of it
@@ -61,16 +60,16 @@ unfolding E.is_end_of
 end_in_set g z w r = any_imp (λ (h : E.Entry ℕ). E.is_end_of g z w r h) (λ h. E.in_set g z h) (λ h e. and_left (E.in_set g z h) (not (E.is_sample h)) (and_left (E.in_set g z h && not (E.is_sample h)) (E.of_pair w r h) e))
 
 -- whether an end joins: asked of its set and of its pair in it
-pub joins_end : (j : Joining) (g w : Key) (z : ℤ) (x : SetEnd) (o : Offer) (l : List (E.Entry ℕ)) → key_as g ≡ o.group → key_as w ≡ o.writer → o.set ≡ Present z → o.what ≡ End x
+pub joins_end : (j : Joining) (g w : Key) (z : ℤ) (x : SetEnd) (o : Offer) (l : List (E.Entry ℕ)) → key_as g ≡ o.group → key_as w ≡ o.writer → o.set ≡ Some z → o.what ≡ End x
     → JoinsSet j (key_as g) z (key_as w) o.reader l → Joins j l (offer_as o)
-unfolding JoinsSet Joins offer_as entry_of shares replaced E.in_set E.is_end_of optional_as what_as
+unfolding JoinsSet Joins offer_as entry_of shares replaced E.in_set E.is_end_of what_as
 joins_end J.Nothing g w z x o l a b c d h = rw (← a, c, d) h
 joins_end J.Replaces g w z x o l a b c d h = rw (← a, ← b, c, d) h
 joins_end J.Adds g w z x o l a b c d h = rw (← a, ← b, c, d) h
 
 -- the end with the mark that it takes over
-pub kept_as : (e : Entry) (z : ℤ) (t : Moment) (o : Option ℕ) → e.set ≡ Present z → moment_as t ≡ o
-    → entry_as (record { group = e.group; writer = e.writer; reader = e.reader; number = e.number; set = Present z; what = e.what; time = e.time; ended = t }) ≡ marked o (entry_as e)
+pub kept_as : (e : Entry) (z : ℤ) (t : Option ℕ) (o : Option ℕ) → e.set ≡ Some z → t ≡ o
+    → entry_as (record { group = e.group; writer = e.writer; reader = e.reader; number = e.number; set = Some z; what = e.what; time = e.time; ended = t }) ≡ marked o (entry_as e)
 unfolding entry_as marked
 kept_as e z t o c d = rw (c, d)
 

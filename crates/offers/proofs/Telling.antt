@@ -1,4 +1,5 @@
 -- The marks that a call tells: its group heard, its writer heard and told, and numbers and digests as they are passed.
+use Rattle.std.specs.Prelude.{Option, None, Some}
 use Prim.Native.Nat.{ℕ, ◌-◌, ◌^◌, ◌<◌, ◌≤◌}
 use mathlib.Core.Path.{◌≡◌, sym, ap, ◌∙◌}
 use mathlib.Core.Bool.{false}
@@ -19,10 +20,7 @@ use Rattle.rules.specs.Marks.{number, hear_writer, announced_to, tell}
 use Rattle.rules.specs.Offer.{pair33, with_marks}
 use Rattle.store.specs.Store.{groups_of, writers_of, state_of}
 use Rattle.group_view.specs.View.{digest_of}
-use Rattle.offers.specs.Calls.{digest_as}
 use Rattle.offers.specs.Steps.{digest_word}
-use Rattle.offers.specs.declared.call.Digest.{Digest}
-use Rattle.offers.specs.declared.call.Digest.TheVariants as D
 use Rattle.store.specs.Records.{Told}
 use Rattle.store.proofs.Past.{below, set_past}
 use Rattle.laws.proofs.Places.{change_at, change_none}
@@ -67,10 +65,10 @@ pub counted : (z : ℤ) (n : ℕ) → mag z < 2 ^ 63 → n ≡ number (to_z w64 
 counted z n f e = e ∙ ap number (to_z-of_z w64 z (record { sfits = f }))
 
 -- a digest's word means that digest
-pub digest_back : (d : Digest) (w : ℕ) → w ≡ digest_word d → w ≤ 2 ^ 32 → digest_of w ≡ digest_as d
-unfolding digest_word digest_as
-digest_back D.Absent w e h = rw e
-digest_back (D.Present n) w e h =
+pub digest_back : (d : Option ℕ) (w : ℕ) → w ≡ digest_word d → w ≤ 2 ^ 32 → digest_of w ≡ d
+unfolding digest_word
+digest_back None w e h = rw e
+digest_back (Some n) w e h =
     let k : w - 1 ≡ n = omega arith in
     let b : n < 2 ^ 32 = omega arith in
     rw (ne_eqb w 0 (λ d. omega arith), k, mod-eq_of_lt b)

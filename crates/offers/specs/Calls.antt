@@ -1,15 +1,13 @@
 -- What the calls' arguments and answers stand for.
 use Prim.{Unit, tt}
 use Rattle.std.specs.Prelude.{ℕ}
-use Rattle.std.proofs.Math.Option.{Option, some, none}
+use Rattle.std.specs.Prelude.{Option, Some, None}
 use Rattle.laws.specs.Answer.{Answer, refused, answered}
 use Rattle.rules.specs.Offer as O
-use Rattle.store.specs.Records.{optional_as, what_as}
+use Rattle.store.specs.Records.{what_as}
 use Rattle.offers.specs.declared.call.Offer.{Offer}
 use Rattle.offers.specs.declared.call.Offered.{Offered}
 use Rattle.offers.specs.declared.call.Offered.TheVariants.{Stored, Joined, Late, ReaderAboveSeven, NinthGroup, PairOver32, Full}
-use Rattle.offers.specs.declared.call.Digest.{Digest}
-use Rattle.offers.specs.declared.call.Digest.TheVariants as D
 use Rattle.offers.specs.declared.call.Heartbeat.{Heartbeat}
 use Rattle.offers.specs.declared.call.Gap.{Gap}
 use Rattle.offers.specs.declared.call.Accepted.{Accepted}
@@ -21,15 +19,11 @@ offer_as o = record {
   writer = o.writer;
   reader = o.reader;
   number = o.number;
-  set = optional_as o.set;
+  set = o.set;
   digest = o.digest;
   what = what_as o.what;
   time = o.time;
 }
-
-unfoldable pub digest_as : Digest → Option ℕ
-digest_as D.Absent = none
-digest_as (D.Present n) = some n
 
 unfoldable pub heartbeat_as : Heartbeat → O.Heartbeat
 heartbeat_as h = record {
@@ -38,8 +32,8 @@ heartbeat_as h = record {
   first = h.first;
   last = h.last;
   current = h.current;
-  digest = digest_as h.digest;
-  secure = digest_as h.secure;
+  digest = h.digest;
+  secure = h.secure;
 }
 
 unfoldable pub gap_as : Gap → O.Gap

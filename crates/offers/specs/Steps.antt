@@ -1,4 +1,5 @@
 -- What the steps of an offer, a heartbeat and a gap ask and leave.
+use Rattle.std.specs.Prelude.{Option, None, Some}
 use Rattle.std.specs.Prelude.{ℕ, ◌+◌, ◌<◌, ◌^◌, ◌≡◌, true, false, ◌&&◌, ◌||◌, not, List, [], ◌∷◌, ◌++◌, ℤ, ltb, length, take}
 use Rattle.laws.specs.Lists.{any, is_some}
 use Rattle.guids.specs.Guid.{Guid}
@@ -7,17 +8,15 @@ use Rattle.rules.specs.State.{State, stored}
 use Rattle.rules.specs.Marks.{hear_group, tell, saw}
 use Rattle.rules.specs.Offer as O
 use Rattle.store.specs.Store.{Row, rows_in, staged, state_of}
-use Rattle.store.specs.Records.{optional_as, entry_as}
-use Rattle.offers.specs.declared.call.Digest.{Digest}
-use Rattle.offers.specs.declared.call.Digest.TheVariants as D
+use Rattle.store.specs.Records.{entry_as}
 use Rattle.offers.specs.declared.join.Joining.{Joining}
 use Rattle.offers.specs.declared.join.Joining.TheVariants as J
 use Rattle.store.specs.declared.entry.Entry.{Entry}
 
 -- a digest as the store has it
-unfoldable pub digest_word : Digest → ℕ
-digest_word D.Absent = 0
-digest_word (D.Present n) = n + 1
+unfoldable pub digest_word : Option ℕ → ℕ
+digest_word None = 0
+digest_word (Some n) = n + 1
 
 -- whether an offer at or below committed joins, and whether it replaces an end
 unfoldable pub Joins : Joining → List (E.Entry ℕ) → O.Offer ℕ → Type 0
@@ -46,7 +45,7 @@ pub record MayJoin (g w : Guid) (e : Entry) (s : State ℕ) : Type 0 where
   pub group : g ≡ e.group
   pub writer : w ≡ e.writer
   pub number : e.number < 2 ^ 63
-  pub has_set : is_some (optional_as e.set) ≡ true
+  pub has_set : is_some e.set ≡ true
   pub room : any (λ h. O.replaced (entry_as e) h) s.held || ltb (stored s) 256 ≡ true
 
 -- rows in use below 256, with the same entries

@@ -1,5 +1,5 @@
 // What an offer, a heartbeat and a gap bring, and what they answer.
-use store::entry::{Optional, What};
+use store::entry::What;
 
 #[derive(Clone, Copy)]
 pub struct Offer {
@@ -7,7 +7,7 @@ pub struct Offer {
     pub writer: [u8; 16],
     pub reader: u8,
     pub number: i64,
-    pub set: Optional,
+    pub set: Option<i64>,
     pub digest: u32,
     pub what: What,
     pub time: u64,
@@ -25,20 +25,14 @@ pub enum Offered {
 }
 
 #[derive(Clone, Copy)]
-pub enum Digest {
-    Absent,
-    Present(u32),
-}
-
-#[derive(Clone, Copy)]
 pub struct Heartbeat {
     pub group: [u8; 16],
     pub writer: [u8; 16],
     pub first: i64,
     pub last: i64,
     pub current: i64,
-    pub digest: Digest,
-    pub secure: Digest,
+    pub digest: Option<u32>,
+    pub secure: Option<u32>,
 }
 
 #[derive(Clone, Copy)]

@@ -6,7 +6,7 @@ ghost use Rattle.store.specs.Store.{state_of};
 ghost use Rattle.offers.specs.Calls.{heartbeat_as, told_as};
 ghost use Rattle.offers.specs.Steps.{digest_word};
 
-use crate::call::{Accepted, Digest, Heartbeat};
+use crate::call::{Accepted, Heartbeat};
 use crate::limits::{ninth_group, pair_over_32};
 use guids::key::pack;
 use rules::number::clamp;
@@ -48,12 +48,12 @@ pub fn heartbeat(store: &mut Store, h: Heartbeat) -> Accepted
     Accepted::Done
 }
 
-fn digest_word(d: Digest) -> u64
+fn digest_word(d: Option<u32>) -> u64
     ensures is { result ≡ digest_word d }
     ensures low { result ≤ 2 ^ 32 }
 {
     match d {
-        Digest::Absent => 0,
-        Digest::Present(n) => n as u64 + 1,
+        None => 0,
+        Some(n) => n as u64 + 1,
     }
 }

@@ -4,7 +4,7 @@ ghost use Rattle.laws.specs.Lists.{find};
 ghost use Rattle.rules.specs.Offer.{place, is_joined};
 ghost use Rattle.store.specs.Store.{state_of, rows_in, row_mark};
 ghost use Rattle.guids.specs.Keys.{key_as};
-ghost use Rattle.store.specs.Records.{moment_as, entry_as, fits};
+ghost use Rattle.store.specs.Records.{entry_as, fits};
 ghost use Rattle.offers.specs.Calls.{offer_as};
 ghost use Rattle.offers.specs.Steps.{Joins, JoinsSet, MayJoin};
 
@@ -12,7 +12,7 @@ use crate::append::append;
 use crate::call::Offer;
 use guids::key::Key;
 use store::coding::read_entry;
-use store::entry::{Entry, Moment, Optional, What};
+use store::entry::{Entry, What};
 use store::query::Query;
 use store::rows::{any_row, entry_count, find_row, remove_rows};
 use store::words::Store;
@@ -35,8 +35,8 @@ pub(crate) fn join_of(store: &Store, group: Key, writer: Key, o: Offer) -> Joini
     match what {
         What::Sample(_) => Joining::Nothing,
         What::End(_) => match set {
-            Optional::Absent => Joining::Nothing,
-            Optional::Present(z) => join_in_set(store, group, writer, reader, z),
+            None => Joining::Nothing,
+            Some(z) => join_in_set(store, group, writer, reader, z),
         },
     }
 }
@@ -55,16 +55,16 @@ fn join_in_set(store: &Store, group: Key, writer: Key, reader: u8, set: i64) -> 
 }
 
 // The mark of the row that the query finds first, if any.
-fn mark_of(store: &Store, n: usize, q: Query) -> Moment
+fn mark_of(store: &Store, n: usize, q: Query) -> Option<u64>
     requires { n ≤ 512 }
-    ensures { moment_as result ≡ row_mark (find (λ x. fits q x) (rows_in n store.now)) }
+    ensures { result ≡ row_mark (find (λ x. fits q x) (rows_in n store.now)) }
 {
     let i = find_row(store, n, q);
     if i < n {
         let e = read_entry(store, i);
         return e.ended;
     }
-    Moment::Never
+    None
 }
 
 // An end joins its set, which it has, in place of its pair's earlier end, and takes that one's mark over.
@@ -78,8 +78,8 @@ pub(crate) fn join_end(store: &mut Store, group: Key, writer: Key, e: Entry)
     let set = e.set;
     let what = e.what;
     match set {
-        Optional::Absent => {}
-        Optional::Present(z) => {
+        None => {}
+        Some(z) => {
             let q = Query::of_pair(group, z, writer, e.reader, false);
             let ended = mark_of(store, n, q);
             let k = remove_rows(store, n, q);

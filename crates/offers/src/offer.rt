@@ -15,7 +15,7 @@ use crate::join::{Joining, join_end, join_of};
 use crate::limits::{is_full, ninth_group, pair_over_32};
 use guids::key::{Key, pack};
 use rules::number::clamp;
-use store::entry::{Entry, Moment};
+use store::entry::Entry;
 use store::groups::{committed_of, hear_group};
 use store::rows::entry_count;
 use store::words::{Store, put_word, whole, word};
@@ -70,7 +70,7 @@ fn entry_of(o: Offer) -> Entry
         set,
         what,
         time: o.time,
-        ended: Moment::Never,
+        ended: None,
     }
 }
 

@@ -3,7 +3,7 @@ use Prim.Native.Nat.{ℕ, ◌+◌, ◌*◌, ◌/◌, ◌%◌, ◌≤◌, ◌<◌
 use mathlib.Core.Path.{◌≡◌, refl, sym, ap, ◌∙◌}
 use mathlib.Core.Bool.{true, false, cond}
 use mathlib.Core.List.{List}
-use mathlib.Core.Option.{Option, some, none}
+use Rattle.std.specs.Prelude.{Option, Some, None}
 use native.Mathlib.Omega.{arith}
 use native.Mathlib.Numerals.{add-one}
 use lib.Dec.{ltb}
@@ -20,15 +20,15 @@ use Rattle.page.proofs.RowWords.{listed_step}
 
 module _ (gs : List Group) where
   abbrev blank : ℕ → Option Row
-  blank k = cond (ltb k (length gs * 8)) (some empty_row) none
+  blank k = cond (ltb k (length gs * 8)) (Some empty_row) None
 
   -- row k before the walk
-  pub start_at : (k : ℕ) → k < 64 → get_or (start_rows 8 gs) k none ≡ blank k
+  pub start_at : (k : ℕ) → k < 64 → get_or (start_rows 8 gs) k None ≡ blank k
   start_at k h =
       let e : 8 * (k / 8) + k % 8 ≡ k = omega arith in
       let r : k % 8 < 8 = omega arith in
-      ap (λ x. get_or (start_rows 8 gs) x none) (sym e)
-      ∙ (elim (ltb k (length gs * 8)) as (λ b. ltb k (length gs * 8) ≡ b → get_or (start_rows 8 gs) (8 * (k / 8) + k % 8) none ≡ cond b (some empty_row) none) [
+      ap (λ x. get_or (start_rows 8 gs) x None) (sym e)
+      ∙ (elim (ltb k (length gs * 8)) as (λ b. ltb k (length gs * 8) ≡ b → get_or (start_rows 8 gs) (8 * (k / 8) + k % 8) None ≡ cond b (Some empty_row) None) [
         | true ↦ λ q. let l : k < length gs * 8 = ltb-true k (length gs * 8) q in start_known 8 (k / 8) (k % 8) gs (omega (arith, l)) (omega (arith, h)) r
         | false ↦ λ q. let l : length gs * 8 ≤ k = ltb-false k (length gs * 8) q in start_absent 8 (k / 8) (k % 8) gs (omega (arith, l))
       ]) refl
@@ -41,13 +41,13 @@ module _ (gs : List Group) where
   unfolding listed
   blanked_none l = refl
 
-  pub blanked_more : (k known : ℕ) (r : PageRow) (l m o : List ℕ) → k < 64 → 256 ≤ length l → known ≡ length gs * 8 → r ≡ words_of (cond (ltb k known) (some empty_row) none) → Blanked k l m → o ≡ put_at k r m → Blanked (k + 1) l o
+  pub blanked_more : (k known : ℕ) (r : PageRow) (l m o : List ℕ) → k < 64 → 256 ≤ length l → known ≡ length gs * 8 → r ≡ words_of (cond (ltb k known) (Some empty_row) None) → Blanked k l m → o ≡ put_at k r m → Blanked (k + 1) l o
   blanked_more k known r l m o h b n e f q =
       let long : length (start_rows 8 gs) ≡ 64 = start_length 8 gs in
-      let here : r ≡ words_of (get_or (start_rows 8 gs) k none) = e ∙ ap (λ x. words_of (cond (ltb k x) (some empty_row) none)) n ∙ ap (λ x. words_of x) (sym (start_at k h)) in
+      let here : r ≡ words_of (get_or (start_rows 8 gs) k None) = e ∙ ap (λ x. words_of (cond (ltb k x) (Some empty_row) None)) n ∙ ap (λ x. words_of x) (sym (start_at k h)) in
       q ∙ ap (put_at k r) f
-      ∙ listed_step (take k (start_rows 8 gs)) (get_or (start_rows 8 gs) k none) r k l (length-take k (start_rows 8 gs) ∙ omega (arith, long)) (omega arith) here
-      ∙ ap (λ x. listed x (drop ((k + 1) * 4) l)) (sym (ap (λ x. take x (start_rows 8 gs)) (add-one k) ∙ take-suc (start_rows 8 gs) k none (omega (arith, long))))
+      ∙ listed_step (take k (start_rows 8 gs)) (get_or (start_rows 8 gs) k None) r k l (length-take k (start_rows 8 gs) ∙ omega (arith, long)) (omega arith) here
+      ∙ ap (λ x. listed x (drop ((k + 1) * 4) l)) (sym (ap (λ x. take x (start_rows 8 gs)) (add-one k) ∙ take-suc (start_rows 8 gs) k None (omega (arith, long))))
 
   pub blanked_all : (l m : List ℕ) → Blanked 64 l m → m ≡ listed (start_rows 8 gs) (drop 256 l)
   blanked_all l m f = f ∙ ap (λ x. listed x (drop 256 l)) (take_all 64 (start_rows 8 gs) (omega (arith, start_length 8 gs)))

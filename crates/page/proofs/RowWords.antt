@@ -3,7 +3,7 @@ use Prim.Native.Nat.{ℕ, zero, suc, ◌+◌, ◌*◌, ◌≤◌, ◌<◌, min}
 use mathlib.Core.Path.{◌≡◌, refl, sym, ap, ◌∙◌}
 use mathlib.Core.Bool.{Bool, true, false, cond}
 use mathlib.Core.List.{List, [], ◌∷◌, ◌++◌}
-use mathlib.Core.Option.{Option, some, none}
+use Rattle.std.specs.Prelude.{Option, Some, None}
 use native.Mathlib.Omega.{arith}
 use native.Mathlib.Nat.{le_of_suc-le-suc}
 use lib.Dec.{eqb}
@@ -43,14 +43,14 @@ put_suc k r a b c d m =
     ∙ ap (λ x. f (suc (suc (suc (suc (k * 4))))) (suc (suc (suc (suc (k * 4 + 1))))) (suc (suc (suc (suc (k * 4 + 2))))) x) e3
 
 -- row k of the rows listed
-pub listed_at : (rs : List (Option Row)) (k : ℕ) (m : List ℕ) → k < length rs → row_at k (listed rs m) ≡ words_of (get_or rs k none)
+pub listed_at : (rs : List (Option Row)) (k : ℕ) (m : List ℕ) → k < length rs → row_at k (listed rs m) ≡ words_of (get_or rs k None)
 unfolding listed
 listed_at [] k m h = absurd (omega arith)
 listed_at (o ∷ rs) zero m h = unfold row_at in refl
 listed_at (o ∷ rs) (suc k) m h = row_suc k _ _ _ _ (listed rs m) ∙ listed_at rs k m (le_of_suc-le-suc h)
 
 -- row k written
-pub listed_put : (rs : List (Option Row)) (k : ℕ) (f : Row → Row) (r : PageRow) (m : List ℕ) → k < length rs → r ≡ words_of (in_row f (get_or rs k none)) → put_at k r (listed rs m) ≡ listed (at_row k f rs) m
+pub listed_put : (rs : List (Option Row)) (k : ℕ) (f : Row → Row) (r : PageRow) (m : List ℕ) → k < length rs → r ≡ words_of (in_row f (get_or rs k None)) → put_at k r (listed rs m) ≡ listed (at_row k f rs) m
 unfolding listed at_row
 listed_put [] k f r m h e = absurd (omega arith)
 listed_put (o ∷ rs) zero f r m h e = ap (λ x. put_at 0 x ((words_of o).tag ∷ (words_of o).pending ∷ (words_of o).held ∷ (words_of o).oldest ∷ listed rs m)) e ∙ (unfold put_at in refl)
@@ -93,12 +93,12 @@ tag_apart : {X : Type 0} (r : PageRow) (o : Option Row) (n : ℕ) → r.tag ≡ 
 tag_apart r o n h e d = absurd (d (sym (ap (λ x. x.tag) e) ∙ h))
 
 pub more_absent : (b : Bool) (t : ℕ) (r : PageRow) (o : Option Row) → r.tag ≡ 0 → r ≡ words_of o → r ≡ words_of (in_row (counted b t) o)
-more_absent b t r none h e = e
-more_absent b t r (some x) h e = tag_apart r (some x) 0 h e (known_tag x.pending x.held x.oldest)
+more_absent b t r None h e = e
+more_absent b t r (Some x) h e = tag_apart r (Some x) 0 h e (known_tag x.pending x.held x.oldest)
   where
-    known_tag : (p q : ℕ) (o : Option ℕ) → (words_of (some (record { pending = p; held = q; oldest = o }))).tag ≡ 0 → ⊥
-    known_tag p q none z = unfold words_of in omega (arith, z)
-    known_tag p q (some u) z = unfold words_of in omega (arith, z)
+    known_tag : (p q : ℕ) (o : Option ℕ) → (words_of (Some (record { pending = p; held = q; oldest = o }))).tag ≡ 0 → ⊥
+    known_tag p q None z = unfold words_of in omega (arith, z)
+    known_tag p q (Some u) z = unfold words_of in omega (arith, z)
 
 abbrev oldest_with : ℕ → PageRow → ℕ
 oldest_with t r = cond (eqb r.tag 2) (min r.oldest t) t
@@ -111,21 +111,21 @@ more_held t r = record { tag = 2; pending = r.pending; held = r.held + 1; oldest
 
 of_pending : (t : ℕ) (o : Option Row) → ((words_of o).tag ≡ 0 → ⊥) → more_pending t (words_of o) ≡ words_of (in_row (counted true t) o)
 unfolding words_of
-of_pending t none h = absurd (h refl)
-of_pending t (some r) h = at_oldest r.pending r.held r.oldest
+of_pending t None h = absurd (h refl)
+of_pending t (Some r) h = at_oldest r.pending r.held r.oldest
   where
-    at_oldest : (p q : ℕ) (o : Option ℕ) → more_pending t (words_of (some (record { pending = p; held = q; oldest = o }))) ≡ words_of (some (counted true t (record { pending = p; held = q; oldest = o })))
-    at_oldest p q none = let e : p + 1 ≡ suc p = omega arith in unfold words_of in rw e
-    at_oldest p q (some u) = let e : p + 1 ≡ suc p = omega arith in unfold words_of in rw e
+    at_oldest : (p q : ℕ) (o : Option ℕ) → more_pending t (words_of (Some (record { pending = p; held = q; oldest = o }))) ≡ words_of (Some (counted true t (record { pending = p; held = q; oldest = o })))
+    at_oldest p q None = let e : p + 1 ≡ suc p = omega arith in unfold words_of in rw e
+    at_oldest p q (Some u) = let e : p + 1 ≡ suc p = omega arith in unfold words_of in rw e
 
 of_held : (t : ℕ) (o : Option Row) → ((words_of o).tag ≡ 0 → ⊥) → more_held t (words_of o) ≡ words_of (in_row (counted false t) o)
 unfolding words_of
-of_held t none h = absurd (h refl)
-of_held t (some r) h = at_oldest r.pending r.held r.oldest
+of_held t None h = absurd (h refl)
+of_held t (Some r) h = at_oldest r.pending r.held r.oldest
   where
-    at_oldest : (p q : ℕ) (o : Option ℕ) → more_held t (words_of (some (record { pending = p; held = q; oldest = o }))) ≡ words_of (some (counted false t (record { pending = p; held = q; oldest = o })))
-    at_oldest p q none = let e : q + 1 ≡ suc q = omega arith in unfold words_of in rw e
-    at_oldest p q (some u) = let e : q + 1 ≡ suc q = omega arith in unfold words_of in rw e
+    at_oldest : (p q : ℕ) (o : Option ℕ) → more_held t (words_of (Some (record { pending = p; held = q; oldest = o }))) ≡ words_of (Some (counted false t (record { pending = p; held = q; oldest = o })))
+    at_oldest p q None = let e : q + 1 ≡ suc q = omega arith in unfold words_of in rw e
+    at_oldest p q (Some u) = let e : q + 1 ≡ suc q = omega arith in unfold words_of in rw e
 
 pub more_pending_lem : (t : ℕ) (r : PageRow) (o : Option Row) → (r.tag ≡ 0 → ⊥) → r ≡ words_of o → more_pending t r ≡ words_of (in_row (counted true t) o)
 more_pending_lem t r o h e = ap (more_pending t) e ∙ of_pending t o (λ z. h (ap (λ x. x.tag) e ∙ z))

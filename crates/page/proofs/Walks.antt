@@ -3,7 +3,7 @@ use Prim.Native.Nat.{ℕ, zero, suc, ◌+◌}
 use mathlib.Core.Path.{◌≡◌, refl, sym, ap, ◌∙◌}
 use mathlib.Core.Bool.{Bool, true, false, cond, and-true}
 use mathlib.Core.List.{List, [], ◌∷◌, ◌++◌, map}
-use mathlib.Core.Option.{Option, some, none}
+use Rattle.std.specs.Prelude.{Option, Some, None}
 use native.Mathlib.Omega.{arith}
 use lib.Dec.{eqb}
 use borrow.Author.Tests.{ne_eqb, eqb-false}
@@ -28,8 +28,8 @@ counted_swap false true t u r = ap (λ o. record { pending = suc r.pending; held
 counted_swap false false t u r = ap (λ o. record { pending = r.pending; held = suc (suc r.held); oldest = o }) (older_swap t u r.oldest)
 
 in_swap : (f g : G.Row → G.Row) → ((r : G.Row) → f (g r) ≡ g (f r)) → (o : Option G.Row) → in_row f (in_row g o) ≡ in_row g (in_row f o)
-in_swap f g h none = refl
-in_swap f g h (some r) = ap some (h r)
+in_swap f g h None = refl
+in_swap f g h (Some r) = ap Some (h r)
 
 at_swap : (i j : ℕ) (f g : G.Row → G.Row) → ((r : G.Row) → f (g r) ≡ g (f r)) → (l : List (Option G.Row)) → at_row i f (at_row j g l) ≡ at_row j g (at_row i f l)
 unfolding at_row

@@ -1,6 +1,6 @@
 -- The page in a lent list of words (document 02, U5): 64 rows of four words each.
 use Rattle.std.specs.Prelude.{ℕ, ◌+◌, ◌*◌, ◌/◌, ◌^◌, ◌<◌, ◌≡◌, Bool, List, [], ◌∷◌, length, drop, get_or, set}
-use Rattle.std.proofs.Math.Option.{Option, some, none}
+use Rattle.std.specs.Prelude.{Option, Some, None}
 use Rattle.laws.specs.Answer.{Answer, refused, answered}
 use Rattle.rules.specs.State.{State}
 use Rattle.rules.specs.Page.{Row, Page, counted, in_row, at_row, page}
@@ -11,12 +11,12 @@ use Rattle.page.specs.declared.rows.PageRow.{PageRow}
 -- the words of a row: its tag, the samples pending, those held, their oldest offer time
 -- tag 0: no group is known there; 1: no sample, so no time; 2: a time. A word that says nothing is 0
 abbrev pub known_words : ℕ → ℕ → Option ℕ → PageRow
-known_words p h none = record { tag = 1; pending = p; held = h; oldest = 0 }
-known_words p h (some t) = record { tag = 2; pending = p; held = h; oldest = t }
+known_words p h None = record { tag = 1; pending = p; held = h; oldest = 0 }
+known_words p h (Some t) = record { tag = 2; pending = p; held = h; oldest = t }
 
 unfoldable pub words_of : Option Row → PageRow
-words_of none = record { tag = 0; pending = 0; held = 0; oldest = 0 }
-words_of (some r) = known_words r.pending r.held r.oldest
+words_of None = record { tag = 0; pending = 0; held = 0; oldest = 0 }
+words_of (Some r) = known_words r.pending r.held r.oldest
 
 -- the rows in order, and what stands behind them
 unfoldable pub listed : List (Option Row) → List ℕ → List ℕ

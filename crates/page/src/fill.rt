@@ -1,6 +1,6 @@
 // The page: one walk over the stored entries.
 ghost use Rattle.std.specs.Prelude.{◌≡◌, cond, ◌+◌, ◌*◌, ◌≤◌, ltb, length, drop};
-ghost use Rattle.std.proofs.Math.Option.{some, none};
+ghost use Rattle.std.specs.Prelude.{Some, None};
 ghost use Rattle.rules.specs.Entry.{is_sample_w};
 ghost use Rattle.rules.specs.Page.{empty_row, start_rows};
 ghost use Rattle.store.specs.Store.{groups_of, row_at, state_of};
@@ -26,7 +26,7 @@ pub enum Paged {
 
 // Row k before any entry is read, of which the first `known` are a group's.
 fn blank_row(k: usize, known: usize) -> PageRow
-    ensures { result ≡ words_of (cond (ltb k known) (some empty_row) none) }
+    ensures { result ≡ words_of (cond (ltb k known) (Some empty_row) None) }
 {
     if k < known {
         return PageRow {

@@ -13,12 +13,11 @@ use decimal::{put_bytes, put_unsigned};
 use fields::{field_count, long_at, only_byte};
 use group_view::view::clear;
 use history::order::GroupOrder;
-use line_input::{begin, next_line};
+use line_input::Lines;
+use line_output::Output;
+use line_output::answers::{Text, answer_lines, put_front};
 use page::fill::Paged;
 use std::io;
-
-// No good line has more than 129 bytes, so one that is cut to fit is bad, as it was.
-type Line = [u8; 256];
 
 // Room for every answer of the call list, and of a page: 260 words of 21 bytes.
 type Out = [u8; 4096];
@@ -53,14 +52,6 @@ fn put_words(out: &mut Shown, at: usize, words: &[u64]) -> usize {
     next
 }
 
-// Prints the first bytes of an answer, where it has so many.
-fn print(rt: &impl Print, text: &[u8], length: usize) -> io::Result<()> {
-    if length <= text.len() {
-        return rt.write_all(&text[0..length]);
-    }
-    Ok(())
-}
-
 fn fill(store: &[u64; 6984], words: &mut [u64], out: &mut Shown) -> usize {
     let answer = GroupOrder::page(store, words);
     match answer {
@@ -81,82 +72,53 @@ fn fill_first(store: &[u64; 6984], list: &mut [u64], n: usize, out: &mut Shown) 
     fill(store, &mut list[..n], out)
 }
 
-fn print_page(rt: &impl Print, said: &Shown, length: usize) -> io::Result<()> {
-    print(rt, said, length)
-}
-
-fn print_call(rt: &impl Print, said: &Out, length: usize) -> io::Result<()> {
-    print(rt, said, length)
-}
-
 fn end_line(said: &mut Out, at: usize) -> usize {
     put_bytes(said, at, b"\n")
 }
 
-fn answer_page(
-    rt: &impl Print,
-    store: &[u64; 6984],
-    list: &mut List,
-    words: u64,
-) -> io::Result<()> {
+fn answer_page(store: &[u64; 6984], list: &mut List, words: u64, text: &mut Text) {
     let n = to_260(words);
     let mut said = [0u8; 6144];
     let length = fill_first(store, list, n, &mut said);
-    print_page(rt, &said, length)
+    put_front(text, &said, length);
 }
 
-fn answer_call(
-    rt: &impl Print,
-    store: &mut [u64; 6984],
-    view: &mut [u64; 1307],
-    line: &[u8],
-) -> io::Result<()> {
+fn answer_call(store: &mut [u64; 6984], view: &mut [u64; 1307], line: &[u8], text: &mut Text) {
     let mut said = [0u8; 4096];
     let n = run_line(store, view, line, &mut said);
     let end = end_line(&mut said, n);
-    print_call(rt, &said, end)
+    put_front(text, &said, end);
 }
 
-// Prints the answer to the first bytes of a line.
-fn answer(
-    rt: &impl Print,
+fn answer_line(
     store: &mut [u64; 6984],
     view: &mut [u64; 1307],
     list: &mut List,
-    line: &Line,
-    length: usize,
-) -> io::Result<()>
-    requires { length ≤ 256 }
-{
-    let line: &[u8] = line;
-    let line = &line[0..length];
+    line: &[u8],
+    text: &mut Text,
+) {
     if only_byte(line, 0) == b'P' {
         let words = long_at(line, 1);
         if words.ok & (field_count(line) == 2) {
-            return answer_page(rt, store, list, words.value);
+            return answer_page(store, list, words.value, text);
         }
     }
-    answer_call(rt, store, view, line)
+    answer_call(store, view, line, text);
 }
 
-// So that the loop is seen to end, it counts more lines than any run has.
+// No good line has more than 129 bytes, so one that is cut to fit is bad, as it was.
 fn main(rt: HostRuntime) -> io::Result<()> {
     let fresh = GroupOrder::new(GroupOrder::GROUP_TIMEOUT);
     let mut store = fresh.words;
     let mut view = [0u64; 1307];
     clear(&mut view);
     let mut list = [9u64; 260];
-    let mut stdin = rt.stdin();
-    let mut chunk = [0u8; 65536];
-    let mut line = [0u8; 256];
-    let mut input = begin();
-    for _ in 0..u64::MAX {
-        let next = next_line(&mut stdin, &mut chunk, input, &mut line);
-        if !next.more {
-            break;
-        }
-        answer(&rt, &mut store, &mut view, &mut list, &line, next.length)?;
-        input = next.input;
-    }
-    Ok(())
+    let mut lines = Lines::new(rt.stdin());
+    let mut output = Output::new(rt.stdout());
+    answer_lines(
+        &mut lines,
+        &mut output,
+        |text, line| answer_line(&mut store, &mut view, &mut list, line, text),
+    );
+    output.into_result()
 }

@@ -3,7 +3,7 @@ use Prim.Native.Nat.{ℕ, suc, ◌+◌, ◌-◌, ◌*◌, ◌<◌, ◌≤◌}
 use mathlib.Core.Path.{◌≡◌, sym, ap, ap₂, ◌∙◌}
 use mathlib.Core.Bool.{true, ◌&&◌, ◌||◌}
 use mathlib.Core.List.{List}
-use mathlib.Core.Option.{some}
+use Rattle.std.specs.Prelude.{Some}
 use native.Mathlib.Omega.{arith}
 use lib.Dec.{eqb, leb, ltb}
 use lib.ListN.{length, get_or, drop}
@@ -50,7 +50,7 @@ module _ (i : ℕ) (v : List ℕ) (t : ℕ) (l : List ℕ) (g : Guid) (e : g ≡
   ruled_for_lem c n = sym (turn_ruled c n)
 
   -- the code's answer, where the list has the group's pending rows and n is their lowest number
-  pub ready_over_lem : (c n k : ℕ) (list : List ℕ) (a : ℕ) → k ≤ 512 → Listed g list a k l → lowest_number (keep (λ e. of_group g e) (staged 0 (rows_in k l))) ≡ some n
+  pub ready_over_lem : (c n k : ℕ) (list : List ℕ) (a : ℕ) → k ≤ 512 → Listed g list a k l → lowest_number (keep (λ e. of_group g e) (staged 0 (rows_in k l))) ≡ Some n
       → all (λ p. ltb p.reader 8) (pairs_of v) ≡ true
       → ready_over g (group_at l i).announced c n v (writers_of l) (heads_in n l (drop a list)) ≡ ready (turn_at i v t l) c n (staged 0 (rows_in k l))
   unfolding ready_over

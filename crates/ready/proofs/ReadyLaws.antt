@@ -3,7 +3,7 @@ use Prim.Native.Nat.{ℕ, zero, suc, ◌+◌, ◌-◌, ◌<◌, ◌≤◌, min}
 use mathlib.Core.Path.{◌≡◌, refl, sym, ap, ◌∙◌}
 use mathlib.Core.Bool.{Bool, true, false, ◌&&◌, not}
 use mathlib.Core.List.{List, [], ◌∷◌}
-use mathlib.Core.Option.{Option, some, none}
+use Rattle.std.specs.Prelude.{Option, Some, None}
 use native.Mathlib.Omega.{arith}
 use native.Mathlib.Numerals.{add-one}
 use lib.Dec.{ltb, leb, eqb}
@@ -82,11 +82,11 @@ less_not a b =
     ]) refl
 
 module _ (g w : Guid) (ws : List Writer) (i : ℕ) (e : i ≡ index_of (λ x. is_writer g w x) ws) where
-  pub writer_known : (z : Writer) → i < length ws → writer_of g w ws ≡ some (get_or ws i z)
+  pub writer_known : (z : Writer) → i < length ws → writer_of g w ws ≡ Some (get_or ws i z)
   unfolding writer_of
-  writer_known z h = find_at (λ x. is_writer g w x) ws z (rw e at h) ∙ ap (λ j. some (get_or ws j z)) (sym e)
+  writer_known z h = find_at (λ x. is_writer g w x) ws z (rw e at h) ∙ ap (λ j. Some (get_or ws j z)) (sym e)
 
-  pub writer_unknown : length ws ≤ i → writer_of g w ws ≡ none
+  pub writer_unknown : length ws ≤ i → writer_of g w ws ≡ None
   unfolding writer_of
   writer_unknown h = find_none (λ x. is_writer g w x) ws (rw e at h)
 
@@ -96,7 +96,7 @@ marks_past w r m h n = rw (h.seen, h.gap, h.first, h.last, h.current)
 
 -- every number from a on, below b
 module _ (o : Option Writer) (r a b : ℕ) (more : a < b) where
-  pub past_known : (w : Writer) (m : Marks) (x : ℕ) → o ≡ some w → MarksOf w r m
+  pub past_known : (w : Writer) (m : Marks) (x : ℕ) → o ≡ Some w → MarksOf w r m
       → x ≡ lowest_open (λ n. past_marks m.seen m.gap_end m.first m.last m.current n) a (b - a)
       → eqb x b ≡ all_from a (b - a) (λ n. past_of o r n)
   unfolding past_of
@@ -105,7 +105,7 @@ module _ (o : Option Writer) (r a b : ℕ) (more : a < b) where
       let q : a + (b - a) ≡ b = omega arith in
       sym (from_same a (b - a) (λ n. past_of o r n) t (λ n. ap (λ y. past_of y r n) e ∙ sym (marks_past w r m h n)) ∙ all_walk t (b - a) a ∙ rw (← f, q))
 
-  pub past_unknown : o ≡ none → false ≡ all_from a (b - a) (λ n. past_of o r n)
+  pub past_unknown : o ≡ None → false ≡ all_from a (b - a) (λ n. past_of o r n)
   unfolding past_of
   past_unknown e = sym (from_same a (b - a) (λ n. past_of o r n) (λ n. false) (λ n. ap (λ y. past_of y r n) e) ∙ from_never a (b - a) (omega arith))
 

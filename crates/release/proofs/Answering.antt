@@ -1,4 +1,5 @@
 -- A release as the call answers it: the refusals, and what the groups released one after the other leave once the rows are compacted.
+use Rattle.std.specs.Prelude.{None}
 use Prim.Native.Nat.{ℕ, ◌+◌, ◌<◌, ◌≤◌, min}
 use mathlib.Core.Path.{◌≡◌, refl, sym, subst, ap, ◌∙◌}
 use mathlib.Core.Bool.{Bool, true, false, ◌||◌, not, cond}
@@ -151,6 +152,6 @@ twice false = refl
 
 pub readers_small : (v : List ℕ) → more v || malformed (view_of v) ≡ false → all (λ p. ltb p.reader 8) (pairs_of v) ≡ true
 readers_small v h =
-    let none : any (λ p. ltb 7 p.reader) (pairs_of v) ≡ false = or_left (any (λ p. ltb 7 p.reader) (pairs_of v)) (any (λ d. unlike_in (digests_of v) d) (digests_of v)) (sym (malformed_rows v) ∙ or_right (more v) (malformed (view_of v)) h) in
+    let None : any (λ p. ltb 7 p.reader) (pairs_of v) ≡ false = or_left (any (λ p. ltb 7 p.reader) (pairs_of v)) (any (λ d. unlike_in (digests_of v) d) (digests_of v)) (sym (malformed_rows v) ∙ or_right (more v) (malformed (view_of v)) h) in
     let same = any_same (λ p. not (ltb p.reader 8)) (λ p. ltb 7 p.reader) (λ p. ap (λ b. not b) (less_not p.reader 8) ∙ twice (leb 8 p.reader)) (pairs_of v) in
-    all_none (λ p. ltb p.reader 8) (pairs_of v) ∙ ap (λ b. not b) (same ∙ none)
+    all_none (λ p. ltb p.reader 8) (pairs_of v) ∙ ap (λ b. not b) (same ∙ None)

@@ -3,7 +3,7 @@ use Prim.Native.Nat.{ℕ, zero, suc, ◌+◌, ◌*◌, ◌<◌, ◌≤◌}
 use mathlib.Core.Path.{◌≡◌, refl, sym, subst, ap, ◌∙◌}
 use mathlib.Core.Bool.{Bool, true, false}
 use mathlib.Core.List.{List, [], ◌∷◌, ◌++◌, append_assoc}
-use mathlib.Core.Option.{Option, some, none}
+use Rattle.std.specs.Prelude.{Option, Some, None}
 use native.Mathlib.Omega.{arith}
 use lib.ListN.{length, take, drop, get_or, set, length-set, length-append}
 use lib.Seq.{set_at, get_or_at, get_or-set_same, take-suc, drop-cons, length-take-le}
@@ -29,20 +29,20 @@ module _ (t : Turn) where
   unfolding rounds
   rounds_last zero w = refl
   rounds_last (suc k) w = (elim (round t w) as (λ o. round t w ≡ o → or_stop (λ v. rounds (suc k) t v) w o ≡ round_to t (or_stop (λ v. rounds k t v) w o)) [
-    | none ↦ λ e. sym (ap (λ o. or_stop (λ v. v) w o) e)
-    | some v ↦ λ e. rounds_last k v
+    | None ↦ λ e. sym (ap (λ o. or_stop (λ v. v) w o) e)
+    | Some v ↦ λ e. rounds_last k v
   ]) refl
 
   pub rounds_more : (a b : ℕ) (w : Work ℕ) → rounds (a + b) t w ≡ rounds b t (rounds a t w)
   unfolding rounds
   rounds_more zero b w = let z : zero + b ≡ b = omega arith in ap (λ m. rounds m t w) z
   rounds_more (suc a) b w = let z : suc a + b ≡ suc (a + b) = omega arith in ap (λ m. rounds m t w) z ∙ (elim (round t w) as (λ o. round t w ≡ o → or_stop (λ v. rounds (a + b) t v) w o ≡ rounds b t (or_stop (λ v. rounds a t v) w o)) [
-    | none ↦ λ e. sym (stopped t w b e)
-    | some v ↦ λ e. rounds_more a b v
+    | None ↦ λ e. sym (stopped t w b e)
+    | Some v ↦ λ e. rounds_more a b v
   ]) refl
 
   -- a work at which no repetition goes on is the last one
-  pub rounds_done : (k : ℕ) (w : Work ℕ) → round t (rounds k t w) ≡ none → rounds k t w ≡ rounds (enough w) t w
+  pub rounds_done : (k : ℕ) (w : Work ℕ) → round t (rounds k t w) ≡ None → rounds k t w ≡ rounds (enough w) t w
   rounds_done k w e = sym (stopped t (rounds k t w) (enough w) e) ∙ sym (rounds_more k (enough w) w) ∙ more t w (k + enough w) (omega arith)
 
 -- ---- what a step does to the work says what it leaves of the groups, writers and timeout
@@ -65,10 +65,10 @@ module _ (i : ℕ) (f : Work ℕ → Work ℕ) (s e : Spot) (h : i < length (gro
 
 -- ---- repetitions from spot to spot
 
-none_of : {A : Type 0} (o : Option A) → is_some o ≡ false → o ≡ none
+none_of : {A : Type 0} (o : Option A) → is_some o ≡ false → o ≡ None
 unfolding is_some
-none_of none h = refl
-none_of (some a) h = absurd (mathlib.Core.Bool.true≢false h)
+none_of None h = refl
+none_of (Some a) h = absurd (mathlib.Core.Bool.true≢false h)
 
 module _ (i : ℕ) (v : List ℕ) (now : ℕ) (s : Spot) (h : i < length (groups_of s.words)) where
   abbrev t : Turn

@@ -4,7 +4,7 @@ use Prim.Native.Nat.{ℕ, suc, ◌+◌, ◌-◌, ◌*◌, ◌%◌, ◌^◌, ◌<
 use mathlib.Core.Path.{◌≡◌, refl, sym, ap, ap₂, subst, ◌∙◌}
 use mathlib.Core.Bool.{Bool, true, false, ◌&&◌, not}
 use mathlib.Core.List.{List, []}
-use mathlib.Core.Option.{Option, some, none}
+use Rattle.std.specs.Prelude.{Option, Some, None}
 use native.Mathlib.Omega.{arith}
 use lib.Dec.{eqb, ltb}
 use lib.ListN.{length, get_or, set, take, drop, length-set}
@@ -157,7 +157,7 @@ module _ (l a m : List ℕ) (n : ℕ) (o : List ℕ) (to i c k : ℕ) (long : le
 
 module _ (i : ℕ) (t : Turn) (s : Spot) where
   -- it goes on
-  pub rounds_on : (e : Spot) (f : Work ℕ → Work ℕ) → ((from : Spot) (w : Work ℕ) → Tied i from s w → round t w ≡ some (f w)) → Goes i f s e → Rounds i t true s e
+  pub rounds_on : (e : Spot) (f : Work ℕ → Work ℕ) → ((from : Spot) (w : Work ℕ) → Tied i from s w → round t w ≡ Some (f w)) → Goes i f s e → Rounds i t true s e
   unfolding is_some
   rounds_on e f d g = record {
     goes = goes_as i f (λ w. round_to t w) s e (λ from w y. sym (ap (λ r. or_stop (λ v. v) w r) (d from w y))) g;
@@ -165,7 +165,7 @@ module _ (i : ℕ) (t : Turn) (s : Spot) where
   }
 
   -- it stops
-  pub rounds_stop : ((from : Spot) (w : Work ℕ) → Tied i from s w → round t w ≡ none) → Rounds i t false s s
+  pub rounds_stop : ((from : Spot) (w : Work ℕ) → Tied i from s w → round t w ≡ None) → Rounds i t false s s
   unfolding is_some
   rounds_stop d = record {
     goes = goes_as i (λ w. w) (λ w. round_to t w) s s (λ from w y. sym (ap (λ r. or_stop (λ v. v) w r) (d from w y))) (goes_none i s);
@@ -197,36 +197,36 @@ module _ (l : List ℕ) (n : ℕ) (g : Guid) (head : ℕ) (b : n ≤ 512) (is : 
   of_number m e = of_group g e && eqb m e.number
 
   -- the first entry of the number is the one of that row
-  first_there : (m : ℕ) → head ≡ head_at g (some m) (rows_in n l) → head < n → find (λ e. of_number m e) (staged 0 (rows_in n l)) ≡ some (row_at head l).entry
+  first_there : (m : ℕ) → head ≡ head_at g (Some m) (rows_in n l) → head < n → find (λ e. of_number m e) (staged 0 (rows_in n l)) ≡ Some (row_at head l).entry
   first_there m f a =
       let z : Row = row_of [] in
-      staged_at 0 (λ e. of_number m e) (rows_in n l) z (rw (← f) (omega (arith, length_rows n l b))) ∙ rw (← f) (ap (λ r. some r.entry) (row_in n head l z a b))
+      staged_at 0 (λ e. of_number m e) (rows_in n l) z (rw (← f) (omega (arith, length_rows n l b))) ∙ rw (← f) (ap (λ r. Some r.entry) (row_in n head l z a b))
 
-  low_there : head < n → low ≡ some (row_at head l).entry.number
+  low_there : head < n → low ≡ Some (row_at head l).entry.number
   low_there a =
       let k : ℕ = (row_at head l).entry.number in
-      (elim low as (λ r. low ≡ r → head ≡ head_at g r (rows_in n l) → low ≡ some k) [
-        | none ↦ λ e f. absurd (omega (arith, length_rows n l b))
-        | some m ↦ λ e f. e ∙ ap some (eqb-true m k (and_right (of_group g (row_at head l).entry) _ (find_test (λ e. of_number m e) (staged 0 (rows_in n l)) (row_at head l).entry (first_there m f a))))
+      (elim low as (λ r. low ≡ r → head ≡ head_at g r (rows_in n l) → low ≡ Some k) [
+        | None ↦ λ e f. absurd (omega (arith, length_rows n l b))
+        | Some m ↦ λ e f. e ∙ ap Some (eqb-true m k (and_right (of_group g (row_at head l).entry) _ (find_test (λ e. of_number m e) (staged 0 (rows_in n l)) (row_at head l).entry (first_there m f a))))
       ]) refl is
 
   -- the lowest number's first row
-  pub head_row : (m : ℕ) → m ≡ (row_at head l).entry.number → head < n → head ≡ head_at g (some m) (rows_in n l)
-  head_row m q a = is ∙ ap (λ r. head_at g r (rows_in n l)) (low_there a ∙ ap some (sym q))
+  pub head_row : (m : ℕ) → m ≡ (row_at head l).entry.number → head < n → head ≡ head_at g (Some m) (rows_in n l)
+  head_row m q a = is ∙ ap (λ r. head_at g r (rows_in n l)) (low_there a ∙ ap Some (sym q))
 
-  low_none : n ≤ head → low ≡ none
+  low_none : n ≤ head → low ≡ None
   unfolding is_some
   low_none a =
       let p : List (Entry ℕ) = staged 0 (rows_in n l) in
-      (elim low as (λ r. low ≡ r → head ≡ head_at g r (rows_in n l) → low ≡ none) [
-        | none ↦ λ e f. e
-        | some m ↦ λ e f.
+      (elim low as (λ r. low ≡ r → head ≡ head_at g r (rows_in n l) → low ≡ None) [
+        | None ↦ λ e f. e
+        | Some m ↦ λ e f.
             let there : any (λ x. of_number m x) p ≡ true = sym (any_keep (λ x. eqb m x.number) (λ x. of_group g x) p) ∙ lowest_number_attained (keep (λ x. of_group g x) p) m e in
             let at : index_of (λ x. eqb x.stage 0 && of_number m x.entry) (rows_in n l) ≡ length (rows_in n l) = omega (arith, f, length_rows n l b, index_le (λ x. eqb x.stage 0 && of_number m x.entry) (rows_in n l)) in
             not_both (any (λ x. of_number m x) p) there (sym (find_any (λ x. of_number m x) p) ∙ ap is_some (staged_past 0 (λ x. of_number m x) (rows_in n l) at))
       ]) refl is
 
-  module _ (v : List ℕ) (now : ℕ) (o : List ℕ) (to i : ℕ) (h : i < length (groups_of l)) (d : g ≡ (group_at l i).guid) (ended : lowest_ended g (staged 1 (rows_in n l)) ≡ none) where
+  module _ (v : List ℕ) (now : ℕ) (o : List ℕ) (to i : ℕ) (h : i < length (groups_of l)) (d : g ≡ (group_at l i).guid) (ended : lowest_ended g (staged 1 (rows_in n l)) ≡ None) where
     abbrev turn : Turn
     turn = turn_at i v now l
 
@@ -237,7 +237,7 @@ module _ (l : List ℕ) (n : ℕ) (g : Guid) (head : ℕ) (b : n ≤ 512) (is : 
     round_low : (from : Spot) (w : Work ℕ) → Tied i from (spot l n o to) w → round turn w ≡ head_step turn w low
     unfolding round next
     round_low from w y =
-        let no_set_lem : lowest_ended turn.guid w.held ≡ none = ap (λ x. lowest_ended x w.held) guid ∙ ap (lowest_ended g) (sym y.carries.held) ∙ ended in
+        let no_set_lem : lowest_ended turn.guid w.held ≡ None = ap (λ x. lowest_ended x w.held) guid ∙ ap (lowest_ended g) (sym y.carries.held) ∙ ended in
         let lowest : next turn w.pending ≡ low = ap (λ x. lowest_number (keep (λ e. of_group x e) w.pending)) guid ∙ ap (λ x. lowest_number (keep (λ e. of_group g e) x)) (sym y.carries.pending) in
         ap (λ r. end_step turn w r) no_set_lem ∙ ap (λ r. head_step turn w r) lowest
 
@@ -246,8 +246,8 @@ module _ (l : List ℕ) (n : ℕ) (g : Guid) (head : ℕ) (b : n ≤ 512) (is : 
     head_none a = rounds_stop i turn (spot l n o to) (λ from w y. round_low from w y ∙ ap (λ r. head_step turn w r) (low_none a))
 
     module _ (m c : ℕ) (q : m ≡ (row_at head l).entry.number) (p : c ≡ (group_at l i).committed) (a : head < n) where
-      found : low ≡ some m
-      found = low_there a ∙ ap some (sym q)
+      found : low ≡ Some m
+      found = low_there a ∙ ap Some (sym q)
 
       -- the time that its first entry waited
       first_young : young turn (find (λ e. is_head turn m e) (staged 0 (rows_in n l))) ≡ ltb (waited now (found_at n head l)) (get_or l 3 0)
@@ -275,7 +275,7 @@ module _ (l : List ℕ) (n : ℕ) (g : Guid) (head : ℕ) (b : n ≤ 512) (is : 
           → Goes i (λ w. commit turn m (m - suc c) w) (spot l n o to) e → Rounds i turn true (spot l n o to) e
       head_old e r z k =
           rounds_on i turn (spot l n o to) e (λ w. commit turn m (m - suc c) w)
-          (λ from w y. round_head false false r z from w y ∙ ap (λ x. some (commit turn m (m - suc x) w)) (sym (p ∙ tied_committed i from (spot l n o to) w y h))) k
+          (λ from w y. round_head false false r z from w y ∙ ap (λ x. Some (commit turn m (m - suc x) w)) (sym (p ∙ tied_committed i from (spot l n o to) w y h))) k
 
       -- it waits
       pub head_young : ready turn c m (staged 0 (rows_in n l)) ≡ false → ltb (waited now (found_at n head l)) (get_or l 3 0) ≡ true → Rounds i turn false (spot l n o to) (spot l n o to)

@@ -1,6 +1,6 @@
 // What a release does to the entries of a number: commit of the source, and what it needs.
 ghost use Rattle.std.specs.Prelude.{◌≡◌, ◌&&◌, true, false, not, List, [], ◌∷◌, ℕ, ◌+◌, ◌<◌, ◌≤◌, ◌^◌, eqb, length, set};
-ghost use Rattle.std.proofs.Math.Option.{some, none};
+ghost use Rattle.std.specs.Prelude.{Some, None};
 ghost use Rattle.laws.specs.Lists.{count, find, keep};
 ghost use Rattle.rules.specs.Commit.{lowest_number};
 ghost use Rattle.sets.specs.Placed.{placed};
@@ -11,7 +11,7 @@ ghost use Rattle.rules.specs.Offer.{shares, marked, keep_end};
 ghost use Rattle.rules.specs.Release.{mark_or, settle, with_held, commit_one};
 ghost use Rattle.store.specs.Store.{row_at, rows_in, staged};
 ghost use Rattle.guids.specs.Keys.{key_as};
-ghost use Rattle.store.specs.Records.{optional_as, moment_as, entry_as};
+ghost use Rattle.store.specs.Records.{entry_as};
 ghost use Rattle.sets.specs.Tied.{gone, spot, Fit, Goes, GoesBy, Stalest, StaleGone, LowerStale, with_pending, commit_heads};
 
 use guids::key::{Key, pack};
@@ -19,17 +19,17 @@ use listing::listing::{number_in, place_in};
 use sets::leaving::{find_marked, vacate, vacate_rows};
 use steps::steps::{discard_set, lower};
 use store::coding::{encode, read_entry};
-use store::entry::{Entry, Moment, Optional, What};
+use store::entry::{Entry, What};
 use store::query::Query;
 use store::rows::{fits_at, push_row};
 use store::words::Store;
 
-fn is_number(o: Optional, z: i64) -> bool
-    ensures { result ≡ is_set z (optional_as o) }
+fn is_number(o: Option<i64>, z: i64) -> bool
+    ensures { result ≡ is_set z o }
 {
     match o {
-        Optional::Absent => false,
-        Optional::Present(y) => z == y,
+        None => false,
+        Some(y) => z == y,
     }
 }
 
@@ -39,17 +39,17 @@ fn lower_stale(
     n: usize,
     i: usize,
     group: Key,
-    own: Optional,
-    low: Optional,
-) -> Optional
+    own: Option<i64>,
+    low: Option<i64>,
+) -> Option<i64>
     requires { (i < n) × (n ≤ 512) × (of_group (key_as group) (row_at i store.now).entry ≡ true) }
-    ensures { LowerStale (key_as group) (optional_as own) (optional_as low) (optional_as result) (row_at i store.now).entry (staged 1 (rows_in n store.now)) }
+    ensures { LowerStale (key_as group) own low result (row_at i store.now).entry (staged 1 (rows_in n store.now)) }
 {
     let e = read_entry(store, i);
     let set = e.set;
     match set {
-        Optional::Absent => low,
-        Optional::Present(z) => {
+        None => low,
+        Some(z) => {
             if is_number(own, z) {
                 return low;
             }
@@ -63,12 +63,12 @@ fn lower_stale(
 }
 
 // The lowest number of a set that is neither ended nor `own`.
-fn lowest_stale(store: &Store, n: usize, group: Key, own: Optional) -> Optional
+fn lowest_stale(store: &Store, n: usize, group: Key, own: Option<i64>) -> Option<i64>
     requires { n ≤ 512 }
-    ensures { Stalest (key_as group) (optional_as own) (optional_as result) (staged 1 (rows_in n store.now)) }
+    ensures { Stalest (key_as group) own result (staged 1 (rows_in n store.now)) }
 {
     let q = Query::of_group(1, group);
-    let mut low = Optional::Absent;
+    let mut low = None;
     let mut i = n;
     while 0 < i {
         i -= 1;
@@ -80,24 +80,24 @@ fn lowest_stale(store: &Store, n: usize, group: Key, own: Optional) -> Optional
 }
 
 // Every set that is neither ended nor `own` is discarded, the lowest first.
-fn discard_stale(store: &mut Store, n: usize, group: Key, own: Optional)
+fn discard_stale(store: &mut Store, n: usize, group: Key, own: Option<i64>)
     requires { n ≤ 512 }
-    ensures { StaleGone (key_as group) (optional_as own) store.old n store.new }
+    ensures { StaleGone (key_as group) own store.old n store.new }
 {
     let mut k = n;
     while 0 < k {
         k -= 1;
         match lowest_stale(store, n, group, own) {
-            Optional::Absent => return,
-            Optional::Present(z) => discard_set(store, n, group, z),
+            None => return,
+            Some(z) => discard_set(store, n, group, z),
         }
     }
 }
 
 // The same; where it is known that there is none, nothing is looked for.
-fn clear_stale(store: &mut Store, n: usize, group: Key, own: Optional, clean: bool)
-    requires { (n ≤ 512) × (clean ≡ true → Stalest (key_as group) (optional_as own) none (staged 1 (rows_in n store.old))) }
-    ensures { StaleGone (key_as group) (optional_as own) store.old n store.new }
+fn clear_stale(store: &mut Store, n: usize, group: Key, own: Option<i64>, clean: bool)
+    requires { (n ≤ 512) × (clean ≡ true → Stalest (key_as group) own None (staged 1 (rows_in n store.old))) }
+    ensures { StaleGone (key_as group) own store.old n store.new }
 {
     if clean {
         return;
@@ -107,7 +107,7 @@ fn clear_stale(store: &mut Store, n: usize, group: Key, own: Optional, clean: bo
 
 // The end with the offer time of its set's first committed end: its own, if none marks the set.
 fn marked_end(store: &Store, n: usize, group: Key, e: Entry, set: i64) -> Entry
-    requires { (n ≤ 512) × (key_as group ≡ e.group) × (optional_as e.set ≡ some set) }
+    requires { (n ≤ 512) × (key_as group ≡ e.group) × (e.set ≡ Some set) }
     ensures { entry_as result ≡ marked (mark_or e.time (find (λ m. shares (entry_as e) m && marks m) (staged 1 (rows_in n store.now)))) (entry_as e) }
 {
     let g = e.group;
@@ -128,16 +128,16 @@ fn marked_end(store: &Store, n: usize, group: Key, e: Entry, set: i64) -> Entry
 }
 
 // The offer time of the set's first committed end; with none, the time given.
-fn end_mark(store: &Store, n: usize, group: Key, set: i64, time: u64) -> Moment
+fn end_mark(store: &Store, n: usize, group: Key, set: i64, time: u64) -> Option<u64>
     requires { n ≤ 512 }
-    ensures { moment_as result ≡ mark_or time (find (λ m. in_set (key_as group) set m && marks m) (staged 1 (rows_in n store.now))) }
+    ensures { result ≡ mark_or time (find (λ m. in_set (key_as group) set m && marks m) (staged 1 (rows_in n store.now))) }
 {
     let i = find_marked(store, n, group, set);
     if i < n {
         let m = read_entry(store, i);
         return m.ended;
     }
-    Moment::At(time)
+    Some(time)
 }
 
 // Rows in use and places written after a step.
@@ -164,14 +164,14 @@ fn settle_entry(
     let what = e.what;
     match what {
         What::Sample(item) => match set {
-            Optional::Absent => {
+            None => {
                 out[at] = e.reader as u64 * 4294967296 + item as u64;
                 Progress {
                     rows: n,
                     out: at + 1,
                 }
             }
-            Optional::Present(_) => {
+            Some(_) => {
                 let row = encode(e, 1);
                 push_row(store, n, row);
                 Progress {
@@ -181,8 +181,8 @@ fn settle_entry(
             }
         },
         What::End(_) => match set {
-            Optional::Absent => Progress { rows: n, out: at },
-            Optional::Present(z) => {
+            None => Progress { rows: n, out: at },
+            Some(z) => {
                 keep_end(store, n, group, e, z);
                 Progress {
                     rows: n + 1,
@@ -195,7 +195,7 @@ fn settle_entry(
 
 // An end is kept in place of its pair's earlier one, and marks its set ended.
 fn keep_end(store: &mut Store, n: usize, group: Key, e: Entry, set: i64)
-    requires { (n < 512) × (key_as group ≡ e.group) × (e.number < 2 ^ 63) × (optional_as e.set ≡ some set) × (is_sample (entry_as e) ≡ false) }
+    requires { (n < 512) × (key_as group ≡ e.group) × (e.number < 2 ^ 63) × (e.set ≡ Some set) × (is_sample (entry_as e) ≡ false) }
     ensures { (i : ℕ) (o : List ℕ) (k : ℕ) → GoesBy 1 0 i (λ w. with_held (keep_end (mark_or e.time (find (λ m. shares (entry_as e) m && marks m) w.held)) (entry_as e) w.held) w) (spot store.old n o k) (spot store.new (n + 1) o k) }
 {
     let kept = marked_end(store, n, group, e, set);
@@ -219,7 +219,7 @@ fn commit_row(
     group: Key,
     clean: bool,
 ) -> Progress
-    requires { Fit (spot store.old n out.old at) × (j < n) × ((row_at j store.old).stage ≡ 0) × (key_as group ≡ (row_at j store.old).entry.group) × (clean ≡ true → Stalest (key_as group) (row_at j store.old).entry.set none (staged 1 (rows_in n store.old))) }
+    requires { Fit (spot store.old n out.old at) × (j < n) × ((row_at j store.old).stage ≡ 0) × (key_as group ≡ (row_at j store.old).entry.group) × (clean ≡ true → Stalest (key_as group) (row_at j store.old).entry.set None (staged 1 (rows_in n store.old))) }
     ensures goes { (i : ℕ) → Goes i (λ w. commit_one (row_at j store.old).entry (with_pending (staged 0 (set (rows_in n store.old) j (gone (row_at j store.old)))) w)) (spot store.old n out.old at) (spot store.new result.rows out.new result.out) }
     ensures places { placed 0 (rows_in result.rows store.new) ≡ keep (λ p. not (eqb p.place j)) (placed 0 (rows_in n store.old)) }
 {
@@ -235,7 +235,7 @@ fn commit_row(
 pub struct Memory {
     pub quiet: bool,
     pub clean: bool,
-    pub own: Optional,
+    pub own: Option<i64>,
 }
 
 // A sample that does not mark its set.
@@ -246,38 +246,38 @@ fn is_plain(e: Entry) -> bool
     let ended = e.ended;
     match what {
         What::Sample(_) => match ended {
-            Moment::Never => true,
-            Moment::At(_) => false,
+            None => true,
+            Some(_) => false,
         },
         What::End(_) => false,
     }
 }
 
-fn same_set(a: Optional, b: Optional) -> bool
-    ensures { result ≡ true → optional_as a ≡ optional_as b }
+fn same_set(a: Option<i64>, b: Option<i64>) -> bool
+    ensures { result ≡ true → a ≡ b }
 {
     match a {
-        Optional::Absent => match b {
-            Optional::Absent => true,
-            Optional::Present(_) => false,
+        None => match b {
+            None => true,
+            Some(_) => false,
         },
-        Optional::Present(z) => is_number(b, z),
+        Some(z) => is_number(b, z),
     }
 }
 
 // Where no set but `own` is open and not ended, none but `set` is.
-fn covers(own: Optional, set: Optional) -> bool
-    ensures { result ≡ true → Covers (optional_as own) (optional_as set) }
+fn covers(own: Option<i64>, set: Option<i64>) -> bool
+    ensures { result ≡ true → Covers own set }
 {
     match own {
-        Optional::Absent => true,
-        Optional::Present(_) => same_set(own, set),
+        None => true,
+        Some(_) => same_set(own, set),
     }
 }
 
 // No set but the entry's own is open and not ended.
-fn is_clean(clean: bool, own: Optional, set: Optional) -> bool
-    ensures { result ≡ true → (clean ≡ true) × Covers (optional_as own) (optional_as set) }
+fn is_clean(clean: bool, own: Option<i64>, set: Option<i64>) -> bool
+    ensures { result ≡ true → (clean ≡ true) × Covers own set }
 {
     if clean {
         return covers(own, set);
@@ -286,14 +286,14 @@ fn is_clean(clean: bool, own: Optional, set: Optional) -> bool
 }
 
 // The only set that may be open and not ended once the entry is committed.
-fn own_after(e: Entry) -> Optional
-    ensures { optional_as result ≡ own_after (entry_as e) }
+fn own_after(e: Entry) -> Option<i64>
+    ensures { result ≡ own_after (entry_as e) }
 {
     let what = e.what;
     let set = e.set;
     match what {
         What::Sample(_) => set,
-        What::End(_) => Optional::Absent,
+        What::End(_) => None,
     }
 }
 
@@ -314,7 +314,7 @@ pub struct Advance {
     pub list: usize,
     pub quiet: bool,
     pub clean: bool,
-    pub own: Optional,
+    pub own: Option<i64>,
 }
 
 // The entries of the lowest number, which stand first in the list, leave pending, in offer order, and are committed one by one.
@@ -329,10 +329,10 @@ pub(crate) fn commit_heads(
     number: u64,
     m: Memory,
 ) -> Advance
-    requires { Fit (spot store.old n out.old at) × Listed (key_as group) list.now a n store.old × (lowest_number (keep (λ e. of_group (key_as group) e) (staged 0 (rows_in n store.old))) ≡ some number) × Known (key_as group) m.quiet m.clean (optional_as m.own) (staged 1 (rows_in n store.old)) }
+    requires { Fit (spot store.old n out.old at) × Listed (key_as group) list.now a n store.old × (lowest_number (keep (λ e. of_group (key_as group) e) (staged 0 (rows_in n store.old))) ≡ Some number) × Known (key_as group) m.quiet m.clean m.own (staged 1 (rows_in n store.old)) }
     ensures goes { (i : ℕ) → Goes i (λ w. commit_heads (key_as group) number w) (spot store.old n out.old at) (spot store.new result.rows out.new result.out) }
     ensures list { Listed (key_as group) list.now result.list result.rows store.new }
-    ensures known { Known (key_as group) result.quiet result.clean (optional_as result.own) (staged 1 (rows_in result.rows store.new)) }
+    ensures known { Known (key_as group) result.quiet result.clean result.own (staged 1 (rows_in result.rows store.new)) }
 {
     let mut rows = n;
     let mut to = at;

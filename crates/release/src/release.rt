@@ -1,6 +1,6 @@
 // Release: release_group of the source, repetition by repetition, and the call.
 ghost use Rattle.std.specs.Prelude.{◌≡◌, true, false, List, ℕ, suc, ◌-◌, ◌<◌, ◌≤◌, ◌^◌, ltb, length};
-ghost use Rattle.std.proofs.Math.Option.{some, none};
+ghost use Rattle.std.specs.Prelude.{Some, None};
 ghost use Rattle.laws.specs.Lists.{all, keep};
 ghost use Rattle.rules.specs.Entry.{of_group};
 ghost use Rattle.rules.specs.Sets.{lowest_ended};
@@ -9,7 +9,6 @@ ghost use Rattle.rules.specs.Release.{commit, rounds, enough, samples};
 ghost use Rattle.store.specs.Store.{rows_in, staged, groups_of, state_of};
 ghost use Rattle.group_view.specs.View.{pairs_of};
 ghost use Rattle.guids.specs.Keys.{key_as};
-ghost use Rattle.store.specs.Records.{optional_as};
 ghost use Rattle.laws.specs.Answer.{Kept};
 ghost use Rattle.release.specs.Released.{released_as, release_noted};
 ghost use Rattle.listing.specs.Listing.{Listed};
@@ -25,19 +24,18 @@ use ready::ready::{is_passable, is_ready};
 use sets::leaving::{is_young, marks_at};
 use sets::sets::{is_whole, set_waits};
 use steps::steps::{add_count, discard_set, hand_out_set, lower_set};
-use store::entry::Optional;
 use store::groups::group_count;
 use store::query::Query;
 use store::rows::{entry_count, fits_at, key_at, remove_rows};
 use store::words::{Store, put_word, whole, word};
 
 // The ended set with the lowest set number.
-fn lowest_ended(store: &Store, n: usize, group: Key) -> Optional
+fn lowest_ended(store: &Store, n: usize, group: Key) -> Option<i64>
     requires { n ≤ 512 }
-    ensures { optional_as result ≡ lowest_ended (key_as group) (staged 1 (rows_in n store.now)) }
+    ensures { result ≡ lowest_ended (key_as group) (staged 1 (rows_in n store.now)) }
 {
     let q = Query::of_group(1, group);
-    let mut low = Optional::Absent;
+    let mut low = None;
     let mut i = n;
     while 0 < i {
         i -= 1;
@@ -103,10 +101,10 @@ fn commit(
     skipped: u64,
     m: Memory,
 ) -> Advance
-    requires { Fit (spot store.old n out.old at) × (i < length (groups_of store.old)) × (number < 2 ^ 63) × Listed (key_as group) list.now a n store.old × (lowest_number (keep (λ e. of_group (key_as group) e) (staged 0 (rows_in n store.old))) ≡ some number) × Known (key_as group) m.quiet m.clean (optional_as m.own) (staged 1 (rows_in n store.old)) }
+    requires { Fit (spot store.old n out.old at) × (i < length (groups_of store.old)) × (number < 2 ^ 63) × Listed (key_as group) list.now a n store.old × (lowest_number (keep (λ e. of_group (key_as group) e) (staged 0 (rows_in n store.old))) ≡ Some number) × Known (key_as group) m.quiet m.clean m.own (staged 1 (rows_in n store.old)) }
     ensures goes { (t : Turn) → t.guid ≡ key_as group → Goes i (λ w. commit t number skipped w) (spot store.old n out.old at) (spot store.new result.rows out.new result.out) }
     ensures list { Listed (key_as group) list.now result.list result.rows store.new }
-    ensures known { Known (key_as group) result.quiet result.clean (optional_as result.own) (staged 1 (rows_in result.rows store.new)) }
+    ensures known { Known (key_as group) result.quiet result.clean result.own (staged 1 (rows_in result.rows store.new)) }
 {
     whole(store);
     put_word(store, 8 + i * 4 + 2, number);
@@ -123,7 +121,7 @@ struct Repetition {
     pub list: usize,
     pub quiet: bool,
     pub clean: bool,
-    pub own: Optional,
+    pub own: Option<i64>,
 }
 
 fn went_on(p: Advance) -> Repetition
@@ -161,10 +159,10 @@ fn end_step(
     set: i64,
     time: u64,
 ) -> Repetition
-    requires { Fit (spot store.old n out.old at) × Listed (key_as group) list.now a n store.old × (i < length (groups_of store.old)) × (key_as group ≡ (group_at store.old i).guid) × (lowest_ended (key_as group) (staged 1 (rows_in n store.old)) ≡ some set) }
+    requires { Fit (spot store.old n out.old at) × Listed (key_as group) list.now a n store.old × (i < length (groups_of store.old)) × (key_as group ≡ (group_at store.old i).guid) × (lowest_ended (key_as group) (staged 1 (rows_in n store.old)) ≡ Some set) }
     ensures rounds { Rounds i (turn_at i view.now time store.old) result.went (spot store.old n out.old at) (spot store.new result.rows out.new result.out) }
     ensures list { Listed (key_as group) list.now result.list result.rows store.new }
-    ensures known { Known (key_as group) result.quiet result.clean (optional_as result.own) (staged 1 (rows_in result.rows store.new)) }
+    ensures known { Known (key_as group) result.quiet result.clean result.own (staged 1 (rows_in result.rows store.new)) }
 {
     if is_whole(store, view, n, group, set) {
         let k = hand_out_set(store, n, out, at, group, set);
@@ -175,7 +173,7 @@ fn end_step(
             list: a,
             quiet: false,
             clean: false,
-            own: Optional::Absent,
+            own: None,
         };
     }
     if set_waits(store, view, n, group, set, time) {
@@ -186,7 +184,7 @@ fn end_step(
             list: a,
             quiet: false,
             clean: false,
-            own: Optional::Absent,
+            own: None,
         };
     }
     discard_set(store, n, group, set);
@@ -197,7 +195,7 @@ fn end_step(
         list: a,
         quiet: false,
         clean: false,
-        own: Optional::Absent,
+        own: None,
     }
 }
 
@@ -215,10 +213,10 @@ fn head_step(
     time: u64,
     m: Memory,
 ) -> Repetition
-    requires { Fit (spot store.old n out.old at) × Listed (key_as group) list.now a n store.old × (i < length (groups_of store.old)) × (key_as group ≡ (group_at store.old i).guid) × (lowest_ended (key_as group) (staged 1 (rows_in n store.old)) ≡ none) × (all (λ p. ltb p.reader 8) (pairs_of view.now) ≡ true) × Known (key_as group) m.quiet m.clean (optional_as m.own) (staged 1 (rows_in n store.old)) }
+    requires { Fit (spot store.old n out.old at) × Listed (key_as group) list.now a n store.old × (i < length (groups_of store.old)) × (key_as group ≡ (group_at store.old i).guid) × (lowest_ended (key_as group) (staged 1 (rows_in n store.old)) ≡ None) × (all (λ p. ltb p.reader 8) (pairs_of view.now) ≡ true) × Known (key_as group) m.quiet m.clean m.own (staged 1 (rows_in n store.old)) }
     ensures rounds { Rounds i (turn_at i view.now time store.old) result.went (spot store.old n out.old at) (spot store.new result.rows out.new result.out) }
     ensures list { Listed (key_as group) list.now result.list result.rows store.new }
-    ensures known { Known (key_as group) result.quiet result.clean (optional_as result.own) (staged 1 (rows_in result.rows store.new)) }
+    ensures known { Known (key_as group) result.quiet result.clean result.own (staged 1 (rows_in result.rows store.new)) }
 {
     if a < 256 {
         let head = place_in(list, a) as usize;
@@ -272,17 +270,17 @@ fn round(
     time: u64,
     m: Memory,
 ) -> Repetition
-    requires { Fit (spot store.old n out.old at) × Listed (key_as group) list.now a n store.old × (i < length (groups_of store.old)) × (key_as group ≡ (group_at store.old i).guid) × (all (λ p. ltb p.reader 8) (pairs_of view.now) ≡ true) × Known (key_as group) m.quiet m.clean (optional_as m.own) (staged 1 (rows_in n store.old)) }
+    requires { Fit (spot store.old n out.old at) × Listed (key_as group) list.now a n store.old × (i < length (groups_of store.old)) × (key_as group ≡ (group_at store.old i).guid) × (all (λ p. ltb p.reader 8) (pairs_of view.now) ≡ true) × Known (key_as group) m.quiet m.clean m.own (staged 1 (rows_in n store.old)) }
     ensures rounds { Rounds i (turn_at i view.now time store.old) result.went (spot store.old n out.old at) (spot store.new result.rows out.new result.out) }
     ensures list { Listed (key_as group) list.now result.list result.rows store.new }
-    ensures known { Known (key_as group) result.quiet result.clean (optional_as result.own) (staged 1 (rows_in result.rows store.new)) }
+    ensures known { Known (key_as group) result.quiet result.clean result.own (staged 1 (rows_in result.rows store.new)) }
 {
     if m.quiet {
         return head_step(store, view, n, out, at, list, a, i, group, time, m);
     }
     match lowest_ended(store, n, group) {
-        Optional::Present(z) => end_step(store, view, n, out, at, list, a, i, group, z, time),
-        Optional::Absent => {
+        Some(z) => end_step(store, view, n, out, at, list, a, i, group, z, time),
+        None => {
             let k = now_quiet(m);
             head_step(store, view, n, out, at, list, a, i, group, time, k)
         }
@@ -300,11 +298,11 @@ fn compact(store: &mut Store, n: usize) -> usize
 
 fn none_ended(store: &Store, n: usize, group: Key) -> bool
     requires { n ≤ 512 }
-    ensures { result ≡ true → lowest_ended (key_as group) (staged 1 (rows_in n store.now)) ≡ none }
+    ensures { result ≡ true → lowest_ended (key_as group) (staged 1 (rows_in n store.now)) ≡ None }
 {
     match lowest_ended(store, n, group) {
-        Optional::Present(_) => false,
-        Optional::Absent => true,
+        Some(_) => false,
+        None => true,
     }
 }
 
@@ -352,7 +350,7 @@ fn release_group(
     let mut to = at;
     let mut quiet = false;
     let mut clean = false;
-    let mut own = Optional::Absent;
+    let mut own = None;
     let mut fuel = 2 * n + 1;
     while 0 < fuel {
         fuel -= 1;

@@ -3,7 +3,7 @@ use Prim.Native.Nat.{ℕ, zero, suc, ◌+◌, ◌-◌, ◌≤◌, ◌<◌}
 use mathlib.Core.Path.{◌≡◌, refl, ap, ◌∙◌, subst}
 use mathlib.Core.Bool.{Bool, true, false, ◌&&◌, not, cond}
 use mathlib.Core.List.{List, [], ◌∷◌, ◌++◌}
-use mathlib.Core.Option.{Option, some, none}
+use Rattle.std.specs.Prelude.{Option, Some, None}
 use native.Mathlib.Omega.{arith}
 use native.Mathlib.Nat.{zero-add}
 use lib.Dec.{ltb, leb, eqb}
@@ -52,17 +52,17 @@ module _ {X : Type 0} (q : Entry X → Bool) (blind : Blind q) where
   offer_fewer : (r : Option ℕ) (s : State X) (o : Offer X)
       → total q (offered r s o).1 ≤ total q s + count q (cond (stores (offered r s o).0) (entry_of o ∷ []) [])
   unfolding total heard_offer with_marks
-  offer_fewer (some n) s o = omega arith
-  offer_fewer none s o = placed (fate_of s o) (heard_offer o s) (entry_of o) (joined_end s o)
+  offer_fewer (Some n) s o = omega arith
+  offer_fewer None s o = placed (fate_of s o) (heard_offer o s) (entry_of o) (joined_end s o)
 
   done_fewer : (r : Option ℕ) (s t : State X) → total q t ≤ total q s → total q (done r s t).1 ≤ total q s + count q []
-  done_fewer (some n) s t h = omega arith
-  done_fewer none s t h = omega arith
+  done_fewer (Some n) s t h = omega arith
+  done_fewer None s t h = omega arith
 
   released_fewer : (r : Option ℕ) (s : State X) (v : View) (now : ℕ) → total q (released_if r s v now).1 ≤ total q s + count q []
   unfolding total released back_to work_of
-  released_fewer (some n) s v now = omega arith
-  released_fewer none s v now = omega (arith, release_fewer q (λ e. member_with q e) (member_plain q) (member_kept q blind) (λ g. turn_of v now s.timeout s.writers g) s.groups (work_of s))
+  released_fewer (Some n) s v now = omega arith
+  released_fewer None s v now = omega (arith, release_fewer q (λ e. member_with q e) (member_plain q) (member_kept q blind) (λ g. turn_of v now s.timeout s.writers g) s.groups (work_of s))
 
   step_fewer : (s : State X) (c : Call X) → total q (step s c).1 ≤ total q s + count q (stores_in s c)
   unfolding step stores_in offer heartbeat gap release total with_marks
@@ -75,12 +75,12 @@ module _ {X : Type 0} (q : Entry X → Bool) (blind : Blind q) where
 
 -- the clock after a call
 abbrev clocked : ℕ → Option ℕ → ℕ
-clocked last none = last
-clocked last (some t) = t
+clocked last None = last
+clocked last (Some t) = t
 
 onward_on : (last : ℕ) (o : Option ℕ) (go : ℕ → Bool) → onward last o go ≡ true → (last ≤ clocked last o) × (go (clocked last o) ≡ true)
-onward_on last none go h = (omega arith, h)
-onward_on last (some t) go h = (leb-true last t (and_left (leb last t) _ h), and_right (leb last t) _ h)
+onward_on last None go h = (omega arith, h)
+onward_on last (Some t) go h = (leb-true last t (and_left (leb last t) _ h), and_right (leb last t) _ h)
 
 module _ {X : Type 0} where
   -- offered after t
@@ -94,7 +94,7 @@ module _ {X : Type 0} where
   -- what a call brings is offered at its time
   brings_now : (last : ℕ) (s : State X) (c : Call X) → count (λ e. later (clocked last (clock_of s c)) e) (stores_in s c) ≡ 0
   unfolding stores_in clock_of later
-  brings_now last s (offers o) = (elim (stores (offer s o).0) as (λ b. count (λ e. later (clocked last (cond b (some o.time) none)) e) (cond b (entry_of o ∷ []) []) ≡ 0) [
+  brings_now last s (offers o) = (elim (stores (offer s o).0) as (λ b. count (λ e. later (clocked last (cond b (Some o.time) None)) e) (cond b (entry_of o ∷ []) []) ≡ 0) [
     | true ↦
         count_zero (λ e. later o.time e) (λ e. eqb e.time o.time) (λ e h. le-ltb o.time e.time (omega (arith, eqb-true))) (entry_of o ∷ [])
         (unfold all entry_of in and_true _ true (eq-eqb o.time o.time refl) refl)
@@ -104,7 +104,7 @@ module _ {X : Type 0} where
   brings_now last s (gaps g) = count_nil _
   brings_now last s (releases now v l) = count_nil _
 
-  release_clock : (last t : ℕ) (s : State X) (c : Call X) → release_time s c ≡ some t → clocked last (clock_of s c) ≡ t
+  release_clock : (last t : ℕ) (s : State X) (c : Call X) → release_time s c ≡ Some t → clocked last (clock_of s c) ≡ t
   unfolding release_time clock_of
   release_clock last t s (offers o) h = cc
   release_clock last t s (heartbeats x) h = cc
@@ -115,12 +115,12 @@ module _ {X : Type 0} where
 
 -- the first time after the last counted release
 abbrev since : Option ℕ → ℕ
-since none = 0
-since (some t) = suc t
+since None = 0
+since (Some t) = suc t
 
 since_young : (last : Option ℕ) (timeout now time : ℕ) → after last timeout now ≡ true → now - time < timeout → since last ≤ time
-since_young none timeout now time h y = omega arith
-since_young (some t) timeout now time h y = omega (arith, leb-true (t + timeout) now h)
+since_young None timeout now time h y = omega arith
+since_young (Some t) timeout now time h y = omega (arith, leb-true (t + timeout) now h)
 
 module _ {X : Type 0} (g : Guid) (n : ℕ) where
   -- the group of a pending entry is known; its held entries are not above
@@ -146,21 +146,21 @@ module _ {X : Type 0} (g : Guid) (n : ℕ) where
 
   -- an answered release that such an entry stays pending through has one owed before it
   released_owed : (r : Option ℕ) (last : Option ℕ) (s : State X) (v : View) (now t : ℕ)
-      → cond (is_answered (released_if r s v now).0) (some now) none ≡ some t
+      → cond (is_answered (released_if r s v now).0) (Some now) None ≡ Some t
       → is_answered (released_if r s v now).0 && stops_empty (λ g. turn_of v now s.timeout s.writers g) s.groups (work_of s) ≡ false
       → after last s.timeout t ≡ true → Reached s → Reached (released_if r s v now).1
       → 1 ≤ count (λ e. is_at g n e) s.pending → 1 ≤ count (λ e. is_at g n e) (released_if r s v now).1.pending
       → 1 ≤ total (λ e. is_owed g n (since last) e) s
   unfolding total released back_to work_of turn_of young
-  released_owed (some j) last s v now t a e h r r' p p' = none_some t a
-  released_owed none last s v now t a e h r r' p p' =
+  released_owed (Some j) last s v now t a e h r r' p p' = none_some t a
+  released_owed None last s v now t a e h r r' p p' =
       let z : now ≡ t = cc in
       stuck (λ x. turn_of v now s.timeout s.writers x) (λ x. refl) g n (since last)
       (λ x e y. since_young last s.timeout now e.time (ap (λ j. after last s.timeout j) z ∙ h) (ltb-true (now - e.time) s.timeout y))
       s.groups (work_of s) r.groups_ordered (known s r p) e p' (none_above (back_to s (released s v now)) r' p')
 
   release_owed : (last : Option ℕ) (s : State X) (c : Call X) (t : ℕ)
-      → release_time s c ≡ some t → empty_stop s c ≡ false → after last s.timeout t ≡ true → Reached s → Reached (step s c).1
+      → release_time s c ≡ Some t → empty_stop s c ≡ false → after last s.timeout t ≡ true → Reached s → Reached (step s c).1
       → 1 ≤ count (λ e. is_at g n e) s.pending → 1 ≤ count (λ e. is_at g n e) (step s c).1.pending
       → 1 ≤ total (λ e. is_owed g n (since last) e) s
   unfolding release_time empty_stop step release
@@ -243,8 +243,8 @@ module _ (k : ℕ) (g : Guid) (n : ℕ) where
       }
 
   counted_on : (last : Option ℕ) (s : State (ℕ × ℕ)) (c : Call (ℕ × ℕ)) (cs : List (Call (ℕ × ℕ))) (t j u : ℕ) (a : List (Entry (ℕ × ℕ)))
-      → Going last s (c ∷ cs) t j a → release_time s c ≡ some u → after last s.timeout u ≡ true → is_pending k s ≡ true → is_pending k (step s c).1 ≡ true
-      → Going (some u) (step s c).1 cs (clocked t (clock_of s c)) (suc j) (a ++ stores_in s c)
+      → Going last s (c ∷ cs) t j a → release_time s c ≡ Some u → after last s.timeout u ≡ true → is_pending k s ≡ true → is_pending k (step s c).1 ≡ true
+      → Going (Some u) (step s c).1 cs (clocked t (clock_of s c)) (suc j) (a ++ stores_in s c)
   unfolding never_empty later is_owed
   counted_on last s c cs t j u a y r f p p' =
       let x = on last s c cs t j a y in
@@ -299,7 +299,7 @@ unfolding fitting astray is_at of_group entry_of
 own_fits k o = rw (same_refl o.group, eq-eqb (number o.number) (number o.number) refl)
 
 -- the sample named by the place of o has o's group and number
-names_fit : (i j : ℕ) (cs : List (Call ℕ)) (o : Offer (ℕ × ℕ)) → nth i (named j cs) ≡ some (offers o)
+names_fit : (i j : ℕ) (cs : List (Call ℕ)) (o : Offer (ℕ × ℕ)) → nth i (named j cs) ≡ Some (offers o)
     → all (λ c. fitting (j + i) o.group (number o.number) c) (named j cs) ≡ true
 unfolding named all nth
 names_fit i j [] o h = refl
@@ -313,8 +313,8 @@ names_fit (suc i) j (c ∷ cs) o h =
     (subst (λ k. all (λ c. fitting k o.group (number o.number) c) (named (suc j) cs) ≡ true) e (names_fit i (suc j) cs o h))
 
 pub bound : (t : ℕ) (cs : List (Call ℕ)) → clock_holds 0 (fresh t) (named 0 cs) ≡ true → never_empty (fresh t) (named 0 cs) ≡ true
-    → (k : ℕ) (o : Offer (ℕ × ℕ)) → nth k (named 0 cs) ≡ some (offers o)
-    → (m : ℕ) → Counted k none (fresh t) (named 0 cs) m
+    → (k : ℕ) (o : Offer (ℕ × ℕ)) → nth k (named 0 cs) ≡ Some (offers o)
+    → (m : ℕ) → Counted k None (fresh t) (named 0 cs) m
     → m ≤ count (λ e. of_group o.group e && leb e.number (number o.number)) (stored_by (fresh t) (named 0 cs))
 unfolding fresh total is_up_to
 bound t cs clock nonempty k o h m d =

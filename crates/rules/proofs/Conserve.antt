@@ -4,7 +4,7 @@ use Prim.Native.Nat.{ℕ, ◌+◌, ◌-◌, ◌^◌, min}
 use mathlib.Core.Path.{◌≡◌, sym, ap}
 use mathlib.Core.Bool.{Bool, true, false, ◌&&◌, not}
 use mathlib.Core.List.{List, [], ◌∷◌}
-use mathlib.Core.Option.{Option, some, none}
+use Rattle.std.specs.Prelude.{Option, Some, None}
 use native.Mathlib.Omega.{arith}
 use lib.IntN.{ℤ}
 use lib.ListN.{length, length-append}
@@ -55,10 +55,10 @@ module _ {X : Type 0} (q : Entry X → Bool) (only : OfSamples q) where
 
   settle_balanced : (n : ℕ) (e : Entry X) (l : List (Entry X)) (w : Work X) (x : What X) (y : Option ℤ) → e.what ≡ x → Balanced q n (e ∷ l) w → Balanced q n l (settle e w x y)
   unfolding Balanced stock with_out with_held is_sample
-  settle_balanced n e l w (sample x) none h b = omega (arith, count_cons q e l, count_append q w.out (e ∷ []), count_one q e)
-  settle_balanced n e l w (sample x) (some z) h b = omega (arith, count_cons q e l, count_append q w.held (e ∷ []), count_one q e)
-  settle_balanced n e l w (set_end f o) none h b = omega (arith, count_cons q e l, weight_none (q e) (not_sample e (ap is_sample_w h)))
-  settle_balanced n e l w (set_end f o) (some z) h b = omega (arith, count_cons q e l, weight_none (q e) (not_sample e (ap is_sample_w h)), keep_end_count (mark_or e.time (find (λ m. shares e m && marks m) w.held)) e w.held (ap is_sample_w h))
+  settle_balanced n e l w (sample x) None h b = omega (arith, count_cons q e l, count_append q w.out (e ∷ []), count_one q e)
+  settle_balanced n e l w (sample x) (Some z) h b = omega (arith, count_cons q e l, count_append q w.held (e ∷ []), count_one q e)
+  settle_balanced n e l w (set_end f o) None h b = omega (arith, count_cons q e l, weight_none (q e) (not_sample e (ap is_sample_w h)))
+  settle_balanced n e l w (set_end f o) (Some z) h b = omega (arith, count_cons q e l, weight_none (q e) (not_sample e (ap is_sample_w h)), keep_end_count (mark_or e.time (find (λ m. shares e m && marks m) w.held)) e w.held (ap is_sample_w h))
 
   balanced : (n : ℕ) → Stays (λ l w. Balanced q n l w)
   unfolding Balanced stock discard hand_out head_of at_group
@@ -91,10 +91,10 @@ module _ {X : Type 0} where
 
   settle_samples : (l m : List (Entry X)) (e : Entry X) (w : Work X) (x : What X) (y : Option ℤ) → e.what ≡ x → OnlySamples l w → OnlySamples m (settle e w x y)
   unfolding OnlySamples with_out with_held is_sample all
-  settle_samples l m e w (sample x) none h b = (all_both (λ a. is_sample a) w.out (e ∷ []) b.0 (rw h), b.1)
-  settle_samples l m e w (sample x) (some z) h b = b
-  settle_samples l m e w (set_end f o) none h b = b
-  settle_samples l m e w (set_end f o) (some z) h b = b
+  settle_samples l m e w (sample x) None h b = (all_both (λ a. is_sample a) w.out (e ∷ []) b.0 (rw h), b.1)
+  settle_samples l m e w (sample x) (Some z) h b = b
+  settle_samples l m e w (set_end f o) None h b = b
+  settle_samples l m e w (set_end f o) (Some z) h b = b
 
   pub only_samples : Stays OnlySamples
   unfolding OnlySamples discard hand_out at_group
@@ -116,10 +116,10 @@ module _ {X : Type 0} where
 
   settle_exact : (d : ℕ) (l m : List (Entry X)) (e : Entry X) (w : Work X) (x : What X) (y : Option ℤ) → Exact d l w → Exact d m (settle e w x y)
   unfolding Exact with_out with_held
-  settle_exact d l m e w (sample x) none b = b
-  settle_exact d l m e w (sample x) (some z) b = b
-  settle_exact d l m e w (set_end f o) none b = b
-  settle_exact d l m e w (set_end f o) (some z) b = b
+  settle_exact d l m e w (sample x) None b = b
+  settle_exact d l m e w (sample x) (Some z) b = b
+  settle_exact d l m e w (set_end f o) None b = b
+  settle_exact d l m e w (set_end f o) (Some z) b = b
 
   pub exact : (d : ℕ) → Stays (λ l w. Exact d l w)
   unfolding Exact discard hand_out discards plus skip at_group

@@ -3,7 +3,7 @@ use Prim.Native.Nat.{ℕ, zero, suc, ◌+◌, ◌-◌, ◌^◌, min, ◌<◌}
 use mathlib.Core.Path.{◌≡◌, refl, ap, ◌∙◌}
 use mathlib.Core.Bool.{Bool, true, false, ◌&&◌, not, cond}
 use mathlib.Core.List.{List, [], ◌∷◌}
-use mathlib.Core.Option.{some, none}
+use Rattle.std.specs.Prelude.{Some, None}
 use native.Mathlib.Omega.{arith}
 use lib.Dec.{ltb, eqb}
 use lib.ListN.{length, length-append}
@@ -55,7 +55,7 @@ module _ {X : Type 0} (q : Entry X → Bool) (only : OfSamples q) where
       ≡ count q s.pending + count q s.held + count q (brings s (offers o))
   unfolding offer brings
   offer_count s o = elim (offer_refusal s o) as (λ r. count q (offered r s o).1.pending + count q (offered r s o).1.held
-      ≡ count q s.pending + count q s.held + count q (cond (accepts (offered r s o).0) (entry_of o ∷ []) [])) [ some n ↦ omega (arith, count_nil q) | none ↦ place_count s o (fate_of s o) refl ]
+      ≡ count q s.pending + count q s.held + count q (cond (accepts (offered r s o).0) (entry_of o ∷ []) [])) [ Some n ↦ omega (arith, count_nil q) | None ↦ place_count s o (fate_of s o) refl ]
 
   -- what a call brings in and what it takes out make the difference
   pub step_count : (s : State X) (c : Call X)
@@ -113,7 +113,7 @@ module _ {X : Type 0} where
 
   pub offer_discarded : (s : State X) (o : Offer X) → (offer s o).1.counts.discarded ≡ s.counts.discarded
   unfolding offer heard_offer with_marks
-  offer_discarded s o = elim (offer_refusal s o) as (λ r. (offered r s o).1.counts.discarded ≡ s.counts.discarded) [ some n ↦ refl | none ↦ place_discarded (fate_of s o) (entry_of o) (heard_offer o s) ]
+  offer_discarded s o = elim (offer_refusal s o) as (λ r. (offered r s o).1.counts.discarded ≡ s.counts.discarded) [ Some n ↦ refl | None ↦ place_discarded (fate_of s o) (entry_of o) (heard_offer o s) ]
 
   -- a call raises it by the samples that it discards, until it stops
   pub step_discarded : (s : State X) (c : Call X) (d : ℕ) → s.counts.discarded ≡ min d (2 ^ 64 - 1) → (step s c).1.counts.discarded ≡ min (d + length (takes s c).lost) (2 ^ 64 - 1)

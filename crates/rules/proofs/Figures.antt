@@ -4,7 +4,7 @@ use Prim.Native.Nat.{ℕ}
 use mathlib.Core.Path.{◌≡◌, refl}
 use mathlib.Core.Bool.{true, false}
 use mathlib.Core.List.{List, [], ◌∷◌, ◌++◌, map}
-use mathlib.Core.Option.{Option, some, none}
+use Rattle.std.specs.Prelude.{Option, Some, None}
 use lib.IntN.{ℤ, pos}
 use lib.ListN.{length, replicate}
 use Rattle.laws.specs.Lists.{keep, all, any, count, find, change, is_some}
@@ -93,37 +93,37 @@ prints t cs = prints_from (fresh t) cs
 -- the writer after a heartbeat 4..6 with current number 10
 unfoldable pub told : Option Writer
 unfolding prints run
-told = writer_of (guid 1) (guid 1) (run (fresh 1000) (H 1 1 (pos 4) (pos 6) (pos 10) none none ∷ [])).writers
+told = writer_of (guid 1) (guid 1) (run (fresh 1000) (H 1 1 (pos 4) (pos 6) (pos 10) None None ∷ [])).writers
 
 -- an ended set without members is held
 unfoldable pub emptied : State ℕ
 unfolding prints run
-emptied = run (fresh 1) (E 1 1 0 (pos 1) (some (pos 1)) 7 none (some (pos 2)) 0 ∷ R both 9 ∷ [])
+emptied = run (fresh 1) (E 1 1 0 (pos 1) (Some (pos 1)) 7 None (Some (pos 2)) 0 ∷ R both 9 ∷ [])
 
 -- the P lines of document 01 on the history
 pub record PLines : Type 0 where
   -- the call list of document 01
-  pub call_list : prints 1000 (S 1 1 0 (pos 1) (some (pos 1)) 7 50 0 ∷ S 1 2 1 (pos 2) (some (pos 1)) 7 51 0 ∷ E 1 1 0 (pos 3) (some (pos 1)) 7 (some (pos 1)) (some (pos 2)) 0 ∷ R (view (C 1 1 0 ∷ C 1 2 1 ∷ []) (D 1 7 ∷ [])) 10 ∷ E 1 2 1 (pos 3) (some (pos 1)) 7 (some (pos 1)) (some (pos 2)) 10 ∷ R (view (C 1 1 0 ∷ C 1 2 1 ∷ []) (D 1 7 ∷ [])) 10 ∷ [])
+  pub call_list : prints 1000 (S 1 1 0 (pos 1) (Some (pos 1)) 7 50 0 ∷ S 1 2 1 (pos 2) (Some (pos 1)) 7 51 0 ∷ E 1 1 0 (pos 3) (Some (pos 1)) 7 (Some (pos 1)) (Some (pos 2)) 0 ∷ R (view (C 1 1 0 ∷ C 1 2 1 ∷ []) (D 1 7 ∷ [])) 10 ∷ E 1 2 1 (pos 3) (Some (pos 1)) 7 (Some (pos 1)) (Some (pos 2)) 10 ∷ R (view (C 1 1 0 ∷ C 1 2 1 ∷ []) (D 1 7 ∷ [])) 10 ∷ [])
       ≡ stored' ∷ stored' ∷ stored' ∷ out' [] 0 0 0 0 ∷ joined' ∷ out' ((0, 50) ∷ (1, 51) ∷ []) 0 0 0 0 ∷ []
   -- fresh, number 0: late
-  pub zero_late : prints 1000 (S 1 1 0 (pos 0) none 7 1 0 ∷ []) ≡ late' ∷ []
+  pub zero_late : prints 1000 (S 1 1 0 (pos 0) None 7 1 0 ∷ []) ≡ late' ∷ []
   -- fresh, number 5 at 0, timeout 1000: at 999 nothing, at 1000 handed out, skipped 4
-  pub timed_out : prints 1000 (S 1 1 0 (pos 5) none 7 9 0 ∷ R nobody 999 ∷ R nobody 1000 ∷ [])
+  pub timed_out : prints 1000 (S 1 1 0 (pos 5) None 7 9 0 ∷ R nobody 999 ∷ R nobody 1000 ∷ [])
       ≡ stored' ∷ out' [] 0 0 0 0 ∷ out' ((0, 9) ∷ []) 4 0 0 0 ∷ []
   -- one member, first 1: own 2 whole, own 3 discarded
-  pub own_two : prints 1000 (S 1 1 0 (pos 1) (some (pos 1)) 7 9 0 ∷ E 1 1 0 (pos 2) (some (pos 1)) 7 (some (pos 1)) (some (pos 2)) 0 ∷ R alone 0 ∷ [])
+  pub own_two : prints 1000 (S 1 1 0 (pos 1) (Some (pos 1)) 7 9 0 ∷ E 1 1 0 (pos 2) (Some (pos 1)) 7 (Some (pos 1)) (Some (pos 2)) 0 ∷ R alone 0 ∷ [])
       ≡ stored' ∷ stored' ∷ out' ((0, 9) ∷ []) 0 0 0 0 ∷ []
-  pub own_three : prints 1000 (S 1 1 0 (pos 1) (some (pos 1)) 7 9 0 ∷ E 1 1 0 (pos 2) (some (pos 1)) 7 (some (pos 1)) (some (pos 3)) 0 ∷ R alone 0 ∷ [])
+  pub own_three : prints 1000 (S 1 1 0 (pos 1) (Some (pos 1)) 7 9 0 ∷ E 1 1 0 (pos 2) (Some (pos 1)) 7 (Some (pos 1)) (Some (pos 3)) 0 ∷ R alone 0 ∷ [])
       ≡ stored' ∷ stored' ∷ out' [] 0 1 1 0 ∷ []
   -- first absent: 0 members whole, 1 discarded
-  pub no_first_none : prints 1000 (E 1 1 0 (pos 1) (some (pos 1)) 7 none (some (pos 2)) 0 ∷ R alone 0 ∷ []) ≡ stored' ∷ out' [] 0 0 0 0 ∷ []
-  pub no_first_whole : (run (fresh 1000) (E 1 1 0 (pos 1) (some (pos 1)) 7 none (some (pos 2)) 0 ∷ R alone 0 ∷ [])).held ≡ []
-  pub no_first_one : prints 1000 (S 1 1 0 (pos 1) (some (pos 1)) 7 9 0 ∷ E 1 1 0 (pos 2) (some (pos 1)) 7 none (some (pos 2)) 0 ∷ R alone 0 ∷ [])
+  pub no_first_none : prints 1000 (E 1 1 0 (pos 1) (Some (pos 1)) 7 None (Some (pos 2)) 0 ∷ R alone 0 ∷ []) ≡ stored' ∷ out' [] 0 0 0 0 ∷ []
+  pub no_first_whole : (run (fresh 1000) (E 1 1 0 (pos 1) (Some (pos 1)) 7 None (Some (pos 2)) 0 ∷ R alone 0 ∷ [])).held ≡ []
+  pub no_first_one : prints 1000 (S 1 1 0 (pos 1) (Some (pos 1)) 7 9 0 ∷ E 1 1 0 (pos 2) (Some (pos 1)) 7 None (Some (pos 2)) 0 ∷ R alone 0 ∷ [])
       ≡ stored' ∷ stored' ∷ out' [] 0 1 1 0 ∷ []
   -- ended, no member, one end missing, timeout 1: held at every time
-  pub empty_waits : (t : ℕ) → prints 1 (E 1 1 0 (pos 1) (some (pos 1)) 7 none (some (pos 2)) 0 ∷ R both t ∷ []) ≡ stored' ∷ out' [] 0 0 0 0 ∷ []
+  pub empty_waits : (t : ℕ) → prints 1 (E 1 1 0 (pos 1) (Some (pos 1)) 7 None (Some (pos 2)) 0 ∷ R both t ∷ []) ≡ stored' ∷ out' [] 0 0 0 0 ∷ []
   pub empty_held : length emptied.held ≡ 1
-  pub empty_came : (t : ℕ) → run (fresh 1) (E 1 1 0 (pos 1) (some (pos 1)) 7 none (some (pos 2)) 0 ∷ R both t ∷ []) ≡ emptied
+  pub empty_came : (t : ℕ) → run (fresh 1) (E 1 1 0 (pos 1) (Some (pos 1)) 7 None (Some (pos 2)) 0 ∷ R both t ∷ []) ≡ emptied
   pub empty_stays : (t : ℕ) → step emptied (R both t) ≡ (is_released [] [], emptied)
   -- heartbeat 4..6, current 10: past 7 and 9, not 6, not 10
   pub past_seven : past_of told 0 7 ≡ true

@@ -3,7 +3,7 @@ use Prim.Native.Nat.{ℕ}
 use mathlib.Core.Path.{◌≡◌, refl}
 use mathlib.Core.Bool.{true, false}
 use mathlib.Core.List.{List, [], ◌∷◌, map}
-use mathlib.Core.Option.{Option, some, none}
+use Rattle.std.specs.Prelude.{Option, Some, None}
 use lib.IntN.{pos, negsuc}
 use lib.ListN.{replicate}
 use Rattle.rules.specs.State.{Group, Writer, fresh}
@@ -29,32 +29,32 @@ zeros = replicate 8 0
 
 pub record MarksFigures : Type 0 where
   -- seen is raised for its reader and never lowered, by samples and ends; the last digest is kept
-  pub seen_raised : writers_of (S 1 1 1 (pos 5) none 7 0 0 ∷ S 1 1 1 (pos 3) none 8 0 0 ∷ S 1 1 7 (pos 2) none 9 0 0 ∷ [])
-      ≡ writer 1 (0 ∷ 5 ∷ 0 ∷ 0 ∷ 0 ∷ 0 ∷ 0 ∷ 2 ∷ []) zeros 0 0 0 (some 9) none ∷ []
+  pub seen_raised : writers_of (S 1 1 1 (pos 5) None 7 0 0 ∷ S 1 1 1 (pos 3) None 8 0 0 ∷ S 1 1 7 (pos 2) None 9 0 0 ∷ [])
+      ≡ writer 1 (0 ∷ 5 ∷ 0 ∷ 0 ∷ 0 ∷ 0 ∷ 0 ∷ 2 ∷ []) zeros 0 0 0 (Some 9) None ∷ []
   -- so is a gap end
   pub gap_raised : writers_of (G 1 1 2 (pos 4) ∷ G 1 1 2 (pos 3) ∷ G 1 1 7 (pos 1) ∷ G 1 1 0 (negsuc 5) ∷ [])
-      ≡ writer 1 zeros (0 ∷ 0 ∷ 4 ∷ 0 ∷ 0 ∷ 0 ∷ 0 ∷ 1 ∷ []) 0 0 0 none none ∷ []
+      ≡ writer 1 zeros (0 ∷ 0 ∷ 4 ∷ 0 ∷ 0 ∷ 0 ∷ 0 ∷ 1 ∷ []) 0 0 0 None None ∷ []
   -- a heartbeat replaces range, current number and secure digest, and leaves the marks of offers and gaps
-  pub beat_replaces : writers_of (S 1 1 1 (pos 5) none 7 0 0 ∷ G 1 1 2 (pos 4) ∷ H 1 1 (pos 8) (pos 9) (pos 12) (some 6) (some 3) ∷ H 1 1 (pos 4) (pos 6) (pos 10) none none ∷ [])
-      ≡ writer 1 (0 ∷ 5 ∷ replicate 6 0) (0 ∷ 0 ∷ 4 ∷ replicate 5 0) 4 6 10 (some 6) none ∷ []
+  pub beat_replaces : writers_of (S 1 1 1 (pos 5) None 7 0 0 ∷ G 1 1 2 (pos 4) ∷ H 1 1 (pos 8) (pos 9) (pos 12) (Some 6) (Some 3) ∷ H 1 1 (pos 4) (pos 6) (pos 10) None None ∷ [])
+      ≡ writer 1 (0 ∷ 5 ∷ replicate 6 0) (0 ∷ 0 ∷ 4 ∷ replicate 5 0) 4 6 10 (Some 6) None ∷ []
   -- offers and gaps leave what a heartbeat told
-  pub others_leave : writers_of (H 1 1 (pos 4) (pos 6) (pos 10) (some 6) (some 3) ∷ S 1 1 1 (pos 5) none 7 0 0 ∷ G 1 1 2 (pos 4) ∷ [])
-      ≡ writer 1 (0 ∷ 5 ∷ replicate 6 0) (0 ∷ 0 ∷ 4 ∷ replicate 5 0) 4 6 10 (some 7) (some 3) ∷ []
+  pub others_leave : writers_of (H 1 1 (pos 4) (pos 6) (pos 10) (Some 6) (Some 3) ∷ S 1 1 1 (pos 5) None 7 0 0 ∷ G 1 1 2 (pos 4) ∷ [])
+      ≡ writer 1 (0 ∷ 5 ∷ replicate 6 0) (0 ∷ 0 ∷ 4 ∷ replicate 5 0) 4 6 10 (Some 7) (Some 3) ∷ []
   -- each pair of group and writer has its own marks
   pub each_writer : writers_of (G 1 1 0 (pos 1) ∷ G 1 2 0 (pos 2) ∷ G 2 1 0 (pos 3) ∷ G 1 2 0 (pos 4) ∷ [])
-      ≡ writer 1 (zeros) (1 ∷ replicate 7 0) 0 0 0 none none ∷ writer 2 zeros (4 ∷ replicate 7 0) 0 0 0 none none ∷ record { group = guid 2; writer = guid 1; seen = zeros; gaps = 3 ∷ replicate 7 0; first = 0; last = 0; current = 0; digest = none; secure = none } ∷ []
+      ≡ writer 1 (zeros) (1 ∷ replicate 7 0) 0 0 0 None None ∷ writer 2 zeros (4 ∷ replicate 7 0) 0 0 0 None None ∷ record { group = guid 2; writer = guid 1; seen = zeros; gaps = 3 ∷ replicate 7 0; first = 0; last = 0; current = 0; digest = None; secure = None } ∷ []
   -- the announced number is raised by current alone, and never lowered; groups stand in the order of their GUIDs
-  pub announced_raised : groups_of (H 2 1 (pos 4) (pos 20) (pos 10) none none ∷ H 2 2 (pos 4) (pos 6) (pos 8) none none ∷ H 3 1 (pos 1) (pos 1) (negsuc 3) none none ∷ G 1 1 0 (pos 5) ∷ S 1 1 0 (pos 5) none 7 0 0 ∷ [])
+  pub announced_raised : groups_of (H 2 1 (pos 4) (pos 20) (pos 10) None None ∷ H 2 2 (pos 4) (pos 6) (pos 8) None None ∷ H 3 1 (pos 1) (pos 1) (negsuc 3) None None ∷ G 1 1 0 (pos 5) ∷ S 1 1 0 (pos 5) None 7 0 0 ∷ [])
       ≡ record { guid = guid 1; committed = 0; announced = 0 } ∷ record { guid = guid 2; committed = 0; announced = 10 } ∷ record { guid = guid 3; committed = 0; announced = 0 } ∷ []
   -- the range's first and last number are not past, nor is current; before a heartbeat nothing is
   pub past_three : past_of told 0 3 ≡ true
   pub not_four : past_of told 0 4 ≡ false
   pub past_below : past_of told 7 1 ≡ true
-  pub unknown_none : past_of none 0 1 ≡ false
+  pub unknown_none : past_of None 0 1 ≡ false
   -- past is seen > n, or gap end >= n, each of its own reader
-  pub seen_past : map (λ w. past w 1 4) (writers_of (S 1 1 1 (pos 5) none 7 0 0 ∷ [])) ≡ true ∷ []
-  pub seen_open : map (λ w. past w 1 5) (writers_of (S 1 1 1 (pos 5) none 7 0 0 ∷ [])) ≡ false ∷ []
-  pub seen_own : map (λ w. past w 0 4) (writers_of (S 1 1 1 (pos 5) none 7 0 0 ∷ [])) ≡ false ∷ []
+  pub seen_past : map (λ w. past w 1 4) (writers_of (S 1 1 1 (pos 5) None 7 0 0 ∷ [])) ≡ true ∷ []
+  pub seen_open : map (λ w. past w 1 5) (writers_of (S 1 1 1 (pos 5) None 7 0 0 ∷ [])) ≡ false ∷ []
+  pub seen_own : map (λ w. past w 0 4) (writers_of (S 1 1 1 (pos 5) None 7 0 0 ∷ [])) ≡ false ∷ []
   pub gap_past : map (λ w. past w 2 4) (writers_of (G 1 1 2 (pos 4) ∷ [])) ≡ true ∷ []
   pub gap_open : map (λ w. past w 2 5) (writers_of (G 1 1 2 (pos 4) ∷ [])) ≡ false ∷ []
   pub gap_own : map (λ w. past w 0 4) (writers_of (G 1 1 2 (pos 4) ∷ [])) ≡ false ∷ []

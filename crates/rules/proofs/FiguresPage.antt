@@ -2,7 +2,7 @@
 use Prim.Native.Nat.{ℕ}
 use mathlib.Core.Path.{◌≡◌, refl}
 use mathlib.Core.List.{List, [], ◌∷◌}
-use mathlib.Core.Option.{Option, some, none}
+use Rattle.std.specs.Prelude.{Option, Some, None}
 use lib.IntN.{pos}
 use lib.ListN.{get_or}
 use Rattle.laws.specs.Answer.{refused, answered}
@@ -15,25 +15,25 @@ use Rattle.rules.proofs.Figures.{S, E, R, both, prints}
 -- group 1 has reader 0's sample held in a set, its kept end and a pending sample; group 2 an end and reader 3's samples pending
 abbrev stocked : List (Call ℕ)
 stocked =
-    S 2 1 3 (pos 5) none 7 1 6 ∷ S 2 1 3 (pos 4) none 7 2 8 ∷ E 2 1 3 (pos 6) none 7 none none 1 ∷ S 1 1 0 (pos 1) (some (pos 1)) 7 9 4
-    ∷ E 1 1 0 (pos 1) (some (pos 1)) 7 none none 2 ∷ R both 8 ∷ S 1 1 0 (pos 3) none 7 9 7 ∷ []
+    S 2 1 3 (pos 5) None 7 1 6 ∷ S 2 1 3 (pos 4) None 7 2 8 ∷ E 2 1 3 (pos 6) None 7 None None 1 ∷ S 1 1 0 (pos 1) (Some (pos 1)) 7 9 4
+    ∷ E 1 1 0 (pos 1) (Some (pos 1)) 7 None None 2 ∷ R both 8 ∷ S 1 1 0 (pos 3) None 7 9 7 ∷ []
 
 unfoldable pub filled : Page
 unfolding prints run page_of read_all read_entry row_of at_row start_rows empty_row index_of
 filled = page_of (run (fresh 1000) stocked)
 
 abbrev row : ℕ → ℕ → Option ℕ → Option Row
-row p h o = some (record { pending = p; held = h; oldest = o })
+row p h o = Some (record { pending = p; held = h; oldest = o })
 
 pub record PageFigures : Type 0 where
   -- groups in the order of their GUIDs, readers ascending; samples alone, the oldest offer of both kinds
-  pub first_row : get_or filled.rows 0 none ≡ row 1 1 (some 4)
-  pub second_row : get_or filled.rows 1 none ≡ row 0 0 none
-  pub other_group : get_or filled.rows 11 none ≡ row 2 0 (some 6)
-  pub last_known : get_or filled.rows 15 none ≡ row 0 0 none
+  pub first_row : get_or filled.rows 0 None ≡ row 1 1 (Some 4)
+  pub second_row : get_or filled.rows 1 None ≡ row 0 0 None
+  pub other_group : get_or filled.rows 11 None ≡ row 2 0 (Some 6)
+  pub last_known : get_or filled.rows 15 None ≡ row 0 0 None
   -- rows past the last known group are absent
-  pub unknown : get_or filled.rows 16 none ≡ none
-  pub last_row : get_or filled.rows 63 none ≡ none
+  pub unknown : get_or filled.rows 16 None ≡ None
+  pub last_row : get_or filled.rows 63 None ≡ None
   -- six entries are stored and read
   pub entries : filled.read ≡ 6
   pub room_63 : page (fresh {X = ℕ} 1000) 63 ≡ refused 5

@@ -2,7 +2,7 @@
 use Prim.Native.Nat.{ℕ, zero, suc, ◌<◌}
 use mathlib.Core.Path.{◌≡◌, refl, ap}
 use mathlib.Core.List.{List, [], ◌∷◌}
-use mathlib.Core.Option.{some}
+use Rattle.std.specs.Prelude.{Some}
 use native.Mathlib.Omega.{arith}
 use lib.ListN.{length, take}
 use Rattle.laws.specs.Lists.{nth}
@@ -23,7 +23,7 @@ module _ {X : Type 0} where
   answers_first (suc n) s [] = refl
   answers_first (suc n) s (c ∷ cs) = ap (λ l. (step s c).0 ∷ l) (answers_first n (step s c).1 cs)
 
-  pub state_after : (n : ℕ) (s : State X) (cs : List (Call X)) → n < length cs → nth n (states_after s cs) ≡ some (run s (take (suc n) cs))
+  pub state_after : (n : ℕ) (s : State X) (cs : List (Call X)) → n < length cs → nth n (states_after s cs) ≡ Some (run s (take (suc n) cs))
   unfolding states_after nth run
   state_after n s [] h = absurd (omega arith)
   state_after zero s (c ∷ cs) h = refl

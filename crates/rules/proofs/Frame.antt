@@ -3,7 +3,7 @@ use Prim.Native.Nat.{ℕ, ◌+◌, ◌≤◌}
 use mathlib.Core.Path.{◌≡◌, refl, sym, ap, ◌∙◌}
 use mathlib.Core.Bool.{Bool, true, false, ◌&&◌, not}
 use mathlib.Core.List.{List, [], ◌∷◌}
-use mathlib.Core.Option.{Option, some, none}
+use Rattle.std.specs.Prelude.{Option, Some, None}
 use native.Mathlib.Omega.{arith}
 use lib.IntN.{ℤ}
 use borrow.Author.Tests.{not-true}
@@ -34,10 +34,10 @@ module _ {X : Type 0} where
 
   settle_same : (g : Guid) (P H : List (Entry X)) (e : Entry X) (w : Work X) (x : What X) (y : Option ℤ) → of_group g e ≡ false → Same g P H w → Same g P H (settle e w x y)
   unfolding with_held with_out keep_end replaced shares of_group marked
-  settle_same g P H e w (sample x) none f r = r
-  settle_same g P H e w (sample x) (some z) f r = (r.0, keep_last (λ x. of_group g x) w.held e f ∙ r.1)
-  settle_same g P H e w (set_end o u) none f r = r
-  settle_same g P H e w (set_end o u) (some z) f r = (
+  settle_same g P H e w (sample x) None f r = r
+  settle_same g P H e w (sample x) (Some z) f r = (r.0, keep_last (λ x. of_group g x) w.held e f ∙ r.1)
+  settle_same g P H e w (set_end o u) None f r = r
+  settle_same g P H e w (set_end o u) (Some z) f r = (
     r.0,
     keep_last (λ x. of_group g x) (keep (λ x. not (replaced e x)) w.held) (marked (mark_or e.time (find (λ m. shares e m && marks m) w.held)) e) f
         ∙ keep_under (λ x. not (replaced e x)) (λ x. of_group g x) (λ x s. rw (apart g e.group x f s)) w.held
@@ -76,10 +76,10 @@ module _ {X : Type 0} where
 
     settle_fewer : (n : ℕ) (e : Entry X) (l : List (Entry X)) (w : Work X) (x : What X) (y : Option ℤ) → AtMost n (e ∷ l) w → AtMost n l (settle e w x y)
     unfolding with_held with_out keep_end
-    settle_fewer n e l w (sample x) none r = omega (arith, count_cons q e l)
-    settle_fewer n e l w (sample x) (some z) r = omega (arith, count_cons q e l, count_last h w.held e, weight_imp (h e) (q e) (plain e))
-    settle_fewer n e l w (set_end f o) none r = omega (arith, count_cons q e l)
-    settle_fewer n e l w (set_end f o) (some z) r =
+    settle_fewer n e l w (sample x) None r = omega (arith, count_cons q e l)
+    settle_fewer n e l w (sample x) (Some z) r = omega (arith, count_cons q e l, count_last h w.held e, weight_imp (h e) (q e) (plain e))
+    settle_fewer n e l w (set_end f o) None r = omega (arith, count_cons q e l)
+    settle_fewer n e l w (set_end f o) (Some z) r =
         let m : Option ℕ = mark_or e.time (find (λ m. shares e m && marks m) w.held) in
         omega (arith, count_cons q e l, count_last h (keep (λ x. not (replaced e x)) w.held) (marked m e), weight_imp (h (marked m e)) (q e) (kept m e), count_keep (λ x. not (replaced e x)) h w.held)
 

@@ -3,7 +3,7 @@ use Prim.Native.Nat.{ℕ, zero, suc, ◌+◌, ◌*◌, ◌≤◌, ◌<◌}
 use mathlib.Core.Path.{◌≡◌, refl, ap}
 use mathlib.Core.Bool.{true, false, ◌&&◌, not}
 use mathlib.Core.List.{List, [], ◌∷◌}
-use mathlib.Core.Option.{Option, some, none}
+use Rattle.std.specs.Prelude.{Option, Some, None}
 use native.Mathlib.Omega.{arith}
 use lib.IntN.{ℤ}
 use lib.ListN.{length, length-append}
@@ -26,20 +26,20 @@ module _ {X : Type 0} where
   unfolding without count
   without_shorter g z l h = omega (arith, count_any (λ h. in_set g z h) l h, length_split (λ h. in_set g z h) l)
 
-  stale_shorter : (e : Entry X) (w : Work X) (z : ℤ) → lowest_stale e w.held ≡ some z → length (discard e.group z w).held < length w.held
+  stale_shorter : (e : Entry X) (w : Work X) (z : ℤ) → lowest_stale e w.held ≡ Some z → length (discard e.group z w).held < length w.held
   unfolding discard
   stale_shorter e w z h = without_shorter e.group z w.held (any_imp (λ x. in_set e.group z x && is_stale e w.held x) (λ x. in_set e.group z x) (λ x p. and_left (in_set e.group z x) _ p) w.held (stale_there e w.held z h))
 
-  none_stale : (e : Entry X) (l : List (Entry X)) → length l ≤ 0 → lowest_stale e l ≡ none
+  none_stale : (e : Entry X) (l : List (Entry X)) → length l ≤ 0 → lowest_stale e l ≡ None
   unfolding lowest_stale lowest_set keep
   none_stale e [] h = refl
   none_stale e (x ∷ l) h = absurd (omega arith)
 
   -- with fuel for every held entry no stale set is left
-  pub stale_fuel : (e : Entry X) (w : Work X) (k : ℕ) → length w.held ≤ k → lowest_stale e (discard_stale k e w).held ≡ none
+  pub stale_fuel : (e : Entry X) (w : Work X) (k : ℕ) → length w.held ≤ k → lowest_stale e (discard_stale k e w).held ≡ None
   unfolding discard_stale
   stale_fuel e w zero h = none_stale e w.held h
-  stale_fuel e w (suc k) h = (elim (lowest_stale e w.held) as (λ o. lowest_stale e w.held ≡ o → lowest_stale e (discard_or (λ v. discard_stale k e v) e.group w o).held ≡ none) [ none ↦ λ d. d | some z ↦ λ d. stale_fuel e (discard e.group z w) k (omega (arith, stale_shorter e w z d)) ]) refl
+  stale_fuel e w (suc k) h = (elim (lowest_stale e w.held) as (λ o. lowest_stale e w.held ≡ o → lowest_stale e (discard_or (λ v. discard_stale k e v) e.group w o).held ≡ None) [ None ↦ λ d. d | Some z ↦ λ d. stale_fuel e (discard e.group z w) k (omega (arith, stale_shorter e w z d)) ]) refl
 
   -- and more changes nothing
   stale_same : (e : Entry X) (m n : ℕ) (w : Work X) → length w.held ≤ m → length w.held ≤ n → discard_stale m e w ≡ discard_stale n e w
@@ -47,7 +47,7 @@ module _ {X : Type 0} where
   stale_same e zero zero w h k = refl
   stale_same e zero (suc n) w h k = rw (none_stale e w.held h)
   stale_same e (suc m) zero w h k = rw (none_stale e w.held k)
-  stale_same e (suc m) (suc n) w h k = (elim (lowest_stale e w.held) as (λ o. lowest_stale e w.held ≡ o → discard_or (λ v. discard_stale m e v) e.group w o ≡ discard_or (λ v. discard_stale n e v) e.group w o) [ none ↦ λ d. refl | some z ↦ λ d. stale_same e m n (discard e.group z w) (omega (arith, stale_shorter e w z d)) (omega (arith, stale_shorter e w z d)) ]) refl
+  stale_same e (suc m) (suc n) w h k = (elim (lowest_stale e w.held) as (λ o. lowest_stale e w.held ≡ o → discard_or (λ v. discard_stale m e v) e.group w o ≡ discard_or (λ v. discard_stale n e v) e.group w o) [ None ↦ λ d. refl | Some z ↦ λ d. stale_same e m n (discard e.group z w) (omega (arith, stale_shorter e w z d)) (omega (arith, stale_shorter e w z d)) ]) refl
 
   pub stale_more : (e : Entry X) (w : Work X) (k : ℕ) → length w.held ≤ k → discard_stale k e w ≡ discard_stale (length w.held) e w
   stale_more e w k h = stale_same e k (length w.held) w h (omega arith)
@@ -60,17 +60,17 @@ module _ {X : Type 0} where
 
   pub settle_length : (e : Entry X) (w : Work X) (x : What X) (s : Option ℤ) → length (settle e w x s).held ≤ suc (length w.held)
   unfolding with_held with_out
-  settle_length e w (sample x) none = omega arith
-  settle_length e w (sample x) (some z) = omega (arith, length-append w.held (e ∷ []))
-  settle_length e w (set_end f o) none = omega arith
-  settle_length e w (set_end f o) (some z) = keep_end_length (mark_or e.time (find (λ m. shares e m && marks m) w.held)) e w.held
+  settle_length e w (sample x) None = omega arith
+  settle_length e w (sample x) (Some z) = omega (arith, length-append w.held (e ∷ []))
+  settle_length e w (set_end f o) None = omega arith
+  settle_length e w (set_end f o) (Some z) = keep_end_length (mark_or e.time (find (λ m. shares e m && marks m) w.held)) e w.held
 
   pub settle_pending : (e : Entry X) (w : Work X) (x : What X) (s : Option ℤ) → (settle e w x s).pending ≡ w.pending
   unfolding with_held with_out
-  settle_pending e w (sample x) none = refl
-  settle_pending e w (sample x) (some z) = refl
-  settle_pending e w (set_end f o) none = refl
-  settle_pending e w (set_end f o) (some z) = refl
+  settle_pending e w (sample x) None = refl
+  settle_pending e w (sample x) (Some z) = refl
+  settle_pending e w (set_end f o) None = refl
+  settle_pending e w (set_end f o) (Some z) = refl
 
   pub stale_pending : (e : Entry X) (k : ℕ) (w : Work X) → (discard_stale k e w).pending ≡ w.pending
   unfolding discard
@@ -82,7 +82,7 @@ module _ {X : Type 0} where
   size : Work X → ℕ
   size w = 2 * length w.pending + length w.held
 
-  finish_falls : (t : Turn) (z : ℤ) (w : Work X) → lowest_ended t.guid w.held ≡ some z → size (finish t z w) < size w
+  finish_falls : (t : Turn) (z : ℤ) (w : Work X) → lowest_ended t.guid w.held ≡ Some z → size (finish t z w) < size w
   unfolding finish size discard hand_out
   finish_falls t z w h =
       let s = without_shorter t.guid z w.held (any_imp (λ x. in_set t.guid z x && marks x) (λ x. in_set t.guid z x) (λ x p. and_left (in_set t.guid z x) _ p) w.held (ended_there t.guid w.held z h)) in
@@ -98,28 +98,28 @@ module _ {X : Type 0} where
     at_taken = λ n k w d r. omega (arith, length_split (λ e. is_head t n e) w.pending);
   }
 
-  commit_falls : (t : Turn) (n k : ℕ) (w : Work X) → next t w.pending ≡ some n → size (commit t n k w) < size w
+  commit_falls : (t : Turn) (n k : ℕ) (w : Work X) → next t w.pending ≡ Some n → size (commit t n k w) < size w
   unfolding size head_of count
   commit_falls t n k w h =
       let r = commit_keeps (sized (length (head_of t n w.pending) + size (taken t n k w)) t) n k w (omega arith) in
       omega (arith, length_split (λ e. is_head t n e) w.pending, count_any (λ e. is_head t n e) w.pending (next_head t w.pending n h))
 
-  falls : (t : Turn) (w v : Work X) → round t w ≡ some v → size v < size w
+  falls : (t : Turn) (w v : Work X) → round t w ≡ Some v → size v < size w
   falls t w v h = round_keeps (λ u. size u < size w) t w v h (λ z e. finish_falls t z w e) (λ n k d e. commit_falls t n k w e)
 
-  stops_with : (k : ℕ) (t : Turn) (w : Work X) → size w < k → round t (rounds k t w) ≡ none
+  stops_with : (k : ℕ) (t : Turn) (w : Work X) → size w < k → round t (rounds k t w) ≡ None
   unfolding rounds
   stops_with zero t w h = absurd (omega arith)
-  stops_with (suc k) t w h = (elim (round t w) as (λ o. round t w ≡ o → round t (or_stop (λ v. rounds k t v) w o) ≡ none) [ none ↦ λ e. e | some v ↦ λ e. stops_with k t v (omega (arith, falls t w v e)) ]) refl
+  stops_with (suc k) t w h = (elim (round t w) as (λ o. round t w ≡ o → round t (or_stop (λ v. rounds k t v) w o) ≡ None) [ None ↦ λ e. e | Some v ↦ λ e. stops_with k t v (omega (arith, falls t w v e)) ]) refl
 
   same_rounds : (m n : ℕ) (t : Turn) (w : Work X) → size w < m → size w < n → rounds m t w ≡ rounds n t w
   unfolding rounds
   same_rounds zero n t w h k = absurd (omega arith)
   same_rounds (suc m) zero t w h k = absurd (omega arith)
-  same_rounds (suc m) (suc n) t w h k = (elim (round t w) as (λ o. round t w ≡ o → or_stop (λ v. rounds m t v) w o ≡ or_stop (λ v. rounds n t v) w o) [ none ↦ λ e. refl | some v ↦ λ e. same_rounds m n t v (omega (arith, falls t w v e)) (omega (arith, falls t w v e)) ]) refl
+  same_rounds (suc m) (suc n) t w h k = (elim (round t w) as (λ o. round t w ≡ o → or_stop (λ v. rounds m t v) w o ≡ or_stop (λ v. rounds n t v) w o) [ None ↦ λ e. refl | Some v ↦ λ e. same_rounds m n t v (omega (arith, falls t w v e)) (omega (arith, falls t w v e)) ]) refl
 
   -- enough rounds go on until one stops, and more change nothing
-  pub stops : (t : Turn) (w : Work X) → round t (rounds (enough w) t w) ≡ none
+  pub stops : (t : Turn) (w : Work X) → round t (rounds (enough w) t w) ≡ None
   unfolding size enough
   stops t w = stops_with (enough w) t w (omega arith)
 

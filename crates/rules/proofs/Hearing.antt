@@ -3,7 +3,7 @@ use Prim.Native.Nat.{ℕ, suc, ◌≤◌}
 use mathlib.Core.Path.{◌≡◌, refl, sym, ap, ◌∙◌}
 use mathlib.Core.Bool.{Bool, true, false, ◌&&◌, ◌||◌, not, cond}
 use mathlib.Core.List.{List, [], ◌∷◌, ◌++◌, map}
-use mathlib.Core.Option.{some}
+use Rattle.std.specs.Prelude.{Some}
 use native.Mathlib.Omega.{arith}
 use lib.Dec.{leb}
 use lib.ListN.{length, length-append}
@@ -39,7 +39,7 @@ knows_by h l k e = any_by_map (λ g. same_guid h g) (λ x. x.guid) l k e
 
 pub committed_cons : (h : Guid) (y : Group) (l : List Group) → committed_of h (y ∷ l) ≡ cond (same_guid h y.guid) y.committed (committed_of h l)
 unfolding committed_of find committed_in is_group
-committed_cons h y l = (elim (same_guid h y.guid) as (λ b. committed_in (cond b (some y) (find (λ x. is_group h x) l)) ≡ cond b y.committed (committed_of h l)) [ true ↦ refl | false ↦ refl ])
+committed_cons h y l = (elim (same_guid h y.guid) as (λ b. committed_in (cond b (Some y) (find (λ x. is_group h x) l)) ≡ cond b y.committed (committed_of h l)) [ true ↦ refl | false ↦ refl ])
 
 -- a change of neither GUIDs nor committed numbers
 pub committed_change : (h : Guid) (q : Group → Bool) (f : Group → Group) → ((x : Group) → (f x).guid ≡ x.guid) → ((x : Group) → (f x).committed ≡ x.committed)
@@ -88,7 +88,7 @@ insert_ascending x (y ∷ l) d e =
 pub unknown_committed : (h : Guid) (l : List Group) → knows_group h l ≡ false → committed_of h l ≡ 0
 unfolding knows_group committed_of any find committed_in
 unknown_committed h [] e = refl
-unknown_committed h (y ∷ l) e = (elim (is_group h y) as (λ b. b || any (λ x. is_group h x) l ≡ false → committed_in (cond b (some y) (find (λ x. is_group h x) l)) ≡ 0) [ true ↦ λ k. not_both true refl k | false ↦ λ k. unknown_committed h l k ]) e
+unknown_committed h (y ∷ l) e = (elim (is_group h y) as (λ b. b || any (λ x. is_group h x) l ≡ false → committed_in (cond b (Some y) (find (λ x. is_group h x) l)) ≡ 0) [ true ↦ λ k. not_both true refl k | false ↦ λ k. unknown_committed h l k ]) e
 
 -- a group put before those that do not know it, with nothing committed
 committed_first : (h : Guid) (x : Group) (l : List Group) → x.committed ≡ 0 → knows_group x.guid l ≡ false → committed_of h (x ∷ l) ≡ committed_of h l

@@ -3,7 +3,7 @@ use Prim.Native.Nat.{ℕ, ◌+◌, ◌≤◌, ◌<◌}
 use mathlib.Core.Path.{◌≡◌, refl, sym, ap, ◌∙◌, subst}
 use mathlib.Core.Bool.{Bool, true, false, ◌&&◌, ◌||◌, not}
 use mathlib.Core.List.{List, [], ◌∷◌, map}
-use mathlib.Core.Option.{Option, some, none}
+use Rattle.std.specs.Prelude.{Option, Some, None}
 use native.Mathlib.Omega.{arith}
 use lib.IntN.{ℤ}
 use lib.Dec.{leb, ltb, eqb}
@@ -62,13 +62,13 @@ module _ {X : Type 0} where
 
     settle_with : (e : Entry X) (l : List (Entry X)) (w : Work X) (x : What X) (y : Option ℤ) → p w.committed e ≡ true → With l w → With l (settle e w x y)
     unfolding with_held with_out
-    settle_with e l w (sample x) none d h = h
-    settle_with e l w (sample x) (some z) d h = (h.0, (h.1.0, all_snoc (λ e. p w.committed e) w.held e h.1.1 d))
-    settle_with e l w (set_end f o) none d h = h
-    settle_with e l w (set_end f o) (some z) d h = (h.0, (h.1.0, keep_end_all (λ e. p w.committed e) (b w.committed) (mark_or e.time (find (λ m. shares e m && marks m) w.held)) e w.held d h.1.1))
+    settle_with e l w (sample x) None d h = h
+    settle_with e l w (sample x) (Some z) d h = (h.0, (h.1.0, all_snoc (λ e. p w.committed e) w.held e h.1.1 d))
+    settle_with e l w (set_end f o) None d h = h
+    settle_with e l w (set_end f o) (Some z) d h = (h.0, (h.1.0, keep_end_all (λ e. p w.committed e) (b w.committed) (mark_or e.time (find (λ m. shares e m && marks m) w.held)) e w.held d h.1.1))
 
     -- the rounds keep it if a number that leaves pending does
-    both : (t : Turn) → ((n k : ℕ) (w : Work X) → next t w.pending ≡ some n → Both w → With (head_of t n w.pending) (taken t n k w)) → Keeps t With
+    both : (t : Turn) → ((n k : ℕ) (w : Work X) → next t w.pending ≡ Some n → Both w → With (head_of t n w.pending) (taken t n k w)) → Keeps t With
     unfolding discard hand_out without all
     both t f = record {
       at_discard = λ l z w h. (h.0, (h.1.0, all_keep (λ e. p w.committed e) (λ x. not (in_set t.guid z x)) w.held h.1.1));
@@ -99,7 +99,7 @@ module _ {X : Type 0} where
   abbrev pub Own : Guid → Work X → Type 0
   Own g w = (all (λ e. above g w.committed e) w.pending ≡ true) × (all (λ e. up_to g w.committed e) w.held ≡ true)
 
-  next_above : (t : Turn) (w : Work X) (n : ℕ) → next t w.pending ≡ some n → Own t.guid w → w.committed < n
+  next_above : (t : Turn) (w : Work X) (n : ℕ) → next t w.pending ≡ Some n → Own t.guid w → w.committed < n
   unfolding above is_head
   next_above t w n h k = any_all (λ e. is_head t n e) (λ e. above t.guid w.committed e) (λ e c d. head_above (of_group t.guid e) w.committed n e.number c d) w.pending (next_head t w.pending n h) k.0
 

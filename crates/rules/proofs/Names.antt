@@ -3,7 +3,7 @@ use Prim.Native.Nat.{ℕ}
 use mathlib.Core.Path.{◌≡◌, refl, ap}
 use mathlib.Core.Bool.{◌&&◌, not}
 use mathlib.Core.List.{List, [], ◌∷◌, map, map-append}
-use mathlib.Core.Option.{Option, some, none}
+use Rattle.std.specs.Prelude.{Option, Some, None}
 use lib.IntN.{ℤ}
 use Rattle.guids.specs.Guid.{Guid}
 use Rattle.rules.specs.Entry.{What, sample, set_end, Entry, is_sample_w, is_sample, of_group, in_set, of_pair, is_member, is_end_of, marks}
@@ -119,8 +119,8 @@ module _ {X Y : Type 0} (f : X → Y) where
   agrees_w_map m (set_end a b) = refl
 
   agrees_e_map : (m : ℕ) (o : Option (Entry X)) → agrees_e m (map_found o) ≡ agrees_e m o
-  agrees_e_map m none = refl
-  agrees_e_map m (some e) = unfold map_entry in agrees_w_map m e.what
+  agrees_e_map m None = refl
+  agrees_e_map m (Some e) = unfold map_entry in agrees_w_map m e.what
 
   pub agrees_map : (g : Guid) (z : ℤ) (l : List (Entry X)) (p : Pair) → agrees g z (maps l) p ≡ agrees g z l p
   unfolding agrees
@@ -171,5 +171,5 @@ module _ {X Y : Type 0} (f : X → Y) where
 
   pub young_map : (t : Turn) (o : Option (Entry X)) → young t (map_found o) ≡ young t o
   unfolding young map_entry
-  young_map t none = refl
-  young_map t (some e) = refl
+  young_map t None = refl
+  young_map t (Some e) = refl

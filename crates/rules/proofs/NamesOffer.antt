@@ -2,7 +2,7 @@
 use Prim.Native.Nat.{ℕ}
 use mathlib.Core.Path.{◌≡◌, refl}
 use mathlib.Core.List.{List, map-append}
-use mathlib.Core.Option.{Option, some, none}
+use Rattle.std.specs.Prelude.{Option, Some, None}
 use lib.ListN.{length-map}
 use Rattle.guids.specs.Guid.{Guid}
 use Rattle.rules.specs.Entry.{Entry, of_group}
@@ -34,8 +34,8 @@ module _ {X Y : Type 0} (f : X → Y) where
   entry_of_map o = refl
 
   mark_of_map : (o : Option (Entry X)) → mark_of (map_found f o) ≡ mark_of o
-  mark_of_map none = refl
-  mark_of_map (some e) = unfold map_entry in refl
+  mark_of_map None = refl
+  mark_of_map (Some e) = unfold map_entry in refl
 
   pub join_map : (e : Entry X) (l : List (Entry X)) → join (map_entry f e) (maps f l) ≡ maps f (join e l)
   unfolding join
@@ -70,16 +70,16 @@ module _ {X Y : Type 0} (f : X → Y) where
   heard_offer_map o s = refl
 
   offered_map : (r : Option ℕ) (s : State X) (o : Offer X) → offered r (map_state f s) (map_offer f o) ≡ map_pair (offered r s o)
-  offered_map none s o = simp (fate_of_map, entry_of_map, heard_offer_map, place_map)
-  offered_map (some n) s o = refl
+  offered_map None s o = simp (fate_of_map, entry_of_map, heard_offer_map, place_map)
+  offered_map (Some n) s o = refl
 
   pub offer_map : (s : State X) (o : Offer X) → offer (map_state f s) (map_offer f o) ≡ map_pair (offer s o)
   unfolding offer
   offer_map s o = simp (offer_refusal_map, offered_map)
 
   done_map : (r : Option ℕ) (s t : State X) → done r (map_state f s) (map_state f t) ≡ map_pair (done r s t)
-  done_map none s t = refl
-  done_map (some n) s t = refl
+  done_map None s t = refl
+  done_map (Some n) s t = refl
 
   pub heartbeat_map : (s : State X) (h : Heartbeat) → heartbeat (map_state f s) h ≡ map_pair (heartbeat s h)
   unfolding heartbeat

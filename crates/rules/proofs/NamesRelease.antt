@@ -3,7 +3,7 @@ use Prim.Native.Nat.{ℕ, zero, suc}
 use mathlib.Core.Path.{◌≡◌, refl, ap, ◌∙◌}
 use mathlib.Core.Bool.{Bool, true, false}
 use mathlib.Core.List.{List, [], ◌∷◌, map-append}
-use mathlib.Core.Option.{Option, some, none}
+use Rattle.std.specs.Prelude.{Option, Some, None}
 use lib.IntN.{ℤ}
 use lib.ListN.{length-map}
 use Rattle.laws.specs.Answer.{Answer, refused, answered}
@@ -65,8 +65,8 @@ module _ {X Y : Type 0} (f : X → Y) where
 
   discard_or_map : (go : Work Y → Work Y) (go' : Work X → Work X) → ((w : Work X) → go (map_work w) ≡ map_work (go' w))
       → (g : Guid) (w : Work X) (o : Option ℤ) → discard_or go g (map_work w) o ≡ map_work (discard_or go' g w o)
-  discard_or_map go go' h g w none = refl
-  discard_or_map go go' h g w (some z) = ap go (discard_map g z w) ∙ h (discard g z w)
+  discard_or_map go go' h g w None = refl
+  discard_or_map go go' h g w (Some z) = ap go (discard_map g z w) ∙ h (discard g z w)
 
   pub discard_stale_map : (k : ℕ) (e : Entry X) (w : Work X) → discard_stale k (map_entry f e) (map_work w) ≡ map_work (discard_stale k e w)
   unfolding discard_stale
@@ -77,15 +77,15 @@ module _ {X Y : Type 0} (f : X → Y) where
   -- ---- a number is committed
 
   mark_or_map : (t : ℕ) (o : Option (Entry X)) → mark_or t (map_found f o) ≡ mark_or t o
-  mark_or_map t none = refl
-  mark_or_map t (some e) = unfold map_entry in refl
+  mark_or_map t None = refl
+  mark_or_map t (Some e) = unfold map_entry in refl
 
   pub settle_map : (e : Entry X) (w : Work X) (a : What X) (s : Option ℤ) → settle (map_entry f e) (map_work w) (map_what f a) s ≡ map_work (settle e w a s)
   unfolding with_held with_out map_work
-  settle_map e w (sample x) none = simp map-append
-  settle_map e w (sample x) (some z) = simp map-append
-  settle_map e w (set_end a b) none = refl
-  settle_map e w (set_end a b) (some z) = simp (time_map f, find_map, shares_map f, marks_map f, mark_or_map, keep_end_map f)
+  settle_map e w (sample x) None = simp map-append
+  settle_map e w (sample x) (Some z) = simp map-append
+  settle_map e w (set_end a b) None = refl
+  settle_map e w (set_end a b) (Some z) = simp (time_map f, find_map, shares_map f, marks_map f, mark_or_map, keep_end_map f)
 
   pub commit_one_map : (e : Entry X) (w : Work X) → commit_one (map_entry f e) (map_work w) ≡ map_work (commit_one e w)
   unfolding commit_one
@@ -106,8 +106,8 @@ module _ {X Y : Type 0} (f : X → Y) where
   commit_if_map false false t n w = simp (committed_map, commit_map)
 
   head_step_map : (t : Turn) (w : Work X) (o : Option ℕ) → head_step t (map_work w) o ≡ map_step (head_step t w o)
-  head_step_map t w none = refl
-  head_step_map t w (some n) = simp (committed_map, pending_map, ready_map f, find_map, is_head_map f, young_map f, commit_if_map)
+  head_step_map t w None = refl
+  head_step_map t w (Some n) = simp (committed_map, pending_map, ready_map f, find_map, is_head_map f, young_map f, commit_if_map)
 
   finish_or_map : (b : Bool) (t : Turn) (z : ℤ) (w : Work X) → finish_or b t z (map_work w) ≡ map_step (finish_or b t z w)
   finish_or_map true t z w = refl
@@ -118,8 +118,8 @@ module _ {X Y : Type 0} (f : X → Y) where
   waits_map t z l = simp (end_missing_map f, find_map, is_member_map f, young_map f)
 
   end_step_map : (t : Turn) (w : Work X) (o : Option ℤ) → end_step t (map_work w) o ≡ map_step (end_step t w o)
-  end_step_map t w none = simp (pending_map, next_map f, head_step_map)
-  end_step_map t w (some z) = simp (held_map, waits_map, finish_or_map)
+  end_step_map t w None = simp (pending_map, next_map f, head_step_map)
+  end_step_map t w (Some z) = simp (held_map, waits_map, finish_or_map)
 
   pub round_map : (t : Turn) (w : Work X) → round t (map_work w) ≡ map_step (round t w)
   unfolding round
@@ -127,8 +127,8 @@ module _ {X Y : Type 0} (f : X → Y) where
 
   or_stop_map : (go : Work Y → Work Y) (go' : Work X → Work X) → ((w : Work X) → go (map_work w) ≡ map_work (go' w))
       → (w : Work X) (o : Option (Work X)) → or_stop go (map_work w) (map_step o) ≡ map_work (or_stop go' w o)
-  or_stop_map go go' h w none = refl
-  or_stop_map go go' h w (some v) = h v
+  or_stop_map go go' h w None = refl
+  or_stop_map go go' h w (Some v) = h v
 
   pub rounds_map : (k : ℕ) (t : Turn) (w : Work X) → rounds k t (map_work w) ≡ map_work (rounds k t w)
   unfolding rounds
@@ -184,8 +184,8 @@ module _ {X Y : Type 0} (f : X → Y) where
   map_answer (answered r) = answered (map_outcome r)
 
   released_if_map : (o : Option ℕ) (s : State X) (v : View) (now : ℕ) → released_if o (map_state f s) v now ≡ (map_answer (released_if o s v now).0, map_state f (released_if o s v now).1)
-  released_if_map none s v now = simp (released_map, back_to_map) (unfold map_work in refl)
-  released_if_map (some n) s v now = refl
+  released_if_map None s v now = simp (released_map, back_to_map) (unfold map_work in refl)
+  released_if_map (Some n) s v now = refl
 
   pub release_map : (s : State X) (v : View) (now room : ℕ) → release (map_state f s) v now room ≡ (map_answer (release s v now room).0, map_state f (release s v now room).1)
   unfolding release

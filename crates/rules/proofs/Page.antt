@@ -3,7 +3,7 @@ use Prim.Native.Nat.{ℕ, zero, suc, ◌+◌, ◌*◌, ◌<◌}
 use mathlib.Core.Path.{◌≡◌, refl, sym, ap, ◌∙◌}
 use mathlib.Core.Bool.{Bool, true, false, ◌&&◌, not, cond}
 use mathlib.Core.List.{List, [], ◌∷◌, ◌++◌}
-use mathlib.Core.Option.{Option, some, none}
+use Rattle.std.specs.Prelude.{Option, Some, None}
 use native.Mathlib.Omega.{arith}
 use native.Mathlib.Nat.{le_of_suc-le-suc}
 use lib.Dec.{ltb, leb, eqb}
@@ -48,13 +48,13 @@ all_length b gs (e ∷ l) p =
     ∙ (elim (is_sample e) as (λ c. length (cond c (at_row (row_of gs e) (counted b e.time) p.rows) p.rows) ≡ length p.rows) [ true ↦ at_length (row_of gs e) (counted b e.time) p.rows | false ↦ refl ])
 
 abbrev pub absent : Option Row
-absent = none
+absent = None
 
 pub start_length : (k : ℕ) (gs : List Group) → length (start_rows k gs) ≡ 8 * k
 unfolding start_rows
 start_length zero gs = refl
 start_length (suc k) [] = omega (arith, length-append (replicate 8 absent) (start_rows k []), length-replicate 8 absent, start_length k [])
-start_length (suc k) (g ∷ gs) = omega (arith, length-append (replicate 8 (some empty_row)) (start_rows k gs), length-replicate 8 (some empty_row), start_length k gs)
+start_length (suc k) (g ∷ gs) = omega (arith, length-append (replicate 8 (Some empty_row)) (start_rows k gs), length-replicate 8 (Some empty_row), start_length k gs)
 
 pub page_rows : {X : Type 0} (s : State X) → length (page_of s).rows ≡ 64
 unfolding page_of
@@ -62,13 +62,13 @@ page_rows s = all_length false s.groups s.held (read_all true s.groups s.pending
 
 -- ---- a row at a place
 
-pub get_at : (i j : ℕ) (f : Row → Row) (l : List (Option Row)) → get_or (at_row i f l) j none ≡ cond (eqb i j) (in_row f (get_or l j none)) (get_or l j none)
+pub get_at : (i j : ℕ) (f : Row → Row) (l : List (Option Row)) → get_or (at_row i f l) j None ≡ cond (eqb i j) (in_row f (get_or l j None)) (get_or l j None)
 unfolding at_row
 get_at i j f [] = elim (eqb i j) as (λ b. absent ≡ cond b absent absent) [ true ↦ refl | false ↦ refl ]
 get_at zero zero f (r ∷ l) = sym (ap (λ b. cond b (in_row f r) r) (eq-eqb 0 0 refl))
-get_at zero (suc j) f (r ∷ l) = sym (ap (λ b. cond b (in_row f (get_or l j none)) (get_or l j none)) (ne_eqb 0 (suc j) (λ e. omega (arith, e))))
+get_at zero (suc j) f (r ∷ l) = sym (ap (λ b. cond b (in_row f (get_or l j None)) (get_or l j None)) (ne_eqb 0 (suc j) (λ e. omega (arith, e))))
 get_at (suc i) zero f (r ∷ l) = sym (ap (λ b. cond b (in_row f r) r) (ne_eqb (suc i) 0 (λ e. omega (arith, e))))
-get_at (suc i) (suc j) f (r ∷ l) = get_at i j f l ∙ ap (λ b. cond b (in_row f (get_or l j none)) (get_or l j none)) (eqb_suc i j)
+get_at (suc i) (suc j) f (r ∷ l) = get_at i j f l ∙ ap (λ b. cond b (in_row f (get_or l j None)) (get_or l j None)) (eqb_suc i j)
   where
     eqb_suc : (i j : ℕ) → eqb i j ≡ eqb (suc i) (suc j)
     eqb_suc i j = (elim (eqb i j) as (λ b. eqb i j ≡ b → b ≡ eqb (suc i) (suc j)) [ true ↦ λ e. sym (eq-eqb (suc i) (suc j) (ap suc (eqb-true i j e))) | false ↦ λ e. let d : i ≡ j → ⊥ = eqb-false i j e in sym (ne_eqb (suc i) (suc j) (λ q. d (omega (arith, q)))) ]) refl
@@ -83,15 +83,15 @@ get_behind zero i a d l = ap (λ m. get_or l m d) (omega arith)
 get_behind (suc n) i a d l = let e : suc n + i ≡ suc (n + i) = omega arith in ap (λ m. get_or (replicate (suc n) a ++ l) m d) e ∙ get_behind n i a d l
 
 -- before the walk a known group's rows are empty
-pub start_known : (k j q : ℕ) (gs : List Group) → j < length gs → j < k → q < 8 → get_or (start_rows k gs) (8 * j + q) none ≡ some empty_row
+pub start_known : (k j q : ℕ) (gs : List Group) → j < length gs → j < k → q < 8 → get_or (start_rows k gs) (8 * j + q) None ≡ Some empty_row
 unfolding start_rows
 start_known zero j q gs h i c = absurd (omega arith)
 start_known (suc k) j q [] h i c = absurd (omega arith)
-start_known (suc k) zero q (g ∷ gs) h i c = let e : 8 * 0 + q ≡ q = omega arith in ap (λ m. get_or (replicate 8 (some empty_row) ++ start_rows k gs) m none) e ∙ get_in 8 q (some empty_row) none (start_rows k gs) c
+start_known (suc k) zero q (g ∷ gs) h i c = let e : 8 * 0 + q ≡ q = omega arith in ap (λ m. get_or (replicate 8 (Some empty_row) ++ start_rows k gs) m None) e ∙ get_in 8 q (Some empty_row) None (start_rows k gs) c
 start_known (suc k) (suc j) q (g ∷ gs) h i c =
     let e : 8 * suc j + q ≡ 8 + (8 * j + q) = omega arith in
-    ap (λ m. get_or (replicate 8 (some empty_row) ++ start_rows k gs) m none) e
-    ∙ get_behind 8 (8 * j + q) (some empty_row) none (start_rows k gs) ∙ start_known k j q gs (le_of_suc-le-suc h) (le_of_suc-le-suc i) c
+    ap (λ m. get_or (replicate 8 (Some empty_row) ++ start_rows k gs) m None) e
+    ∙ get_behind 8 (8 * j + q) (Some empty_row) None (start_rows k gs) ∙ start_known k j q gs (le_of_suc-le-suc h) (le_of_suc-le-suc i) c
 
 -- ---- of every state that calls reach
 
@@ -118,19 +118,19 @@ module _ {X : Type 0} where
   }
   placed_eight is_late o s h e = record { pending = e.pending; held = e.held }
 
-  offered_eight : (r : Option ℕ) (o : Offer X) (s : State X) → (r ≡ none → leb o.reader 7 ≡ true) → Eight s → Eight (offered r s o).1
+  offered_eight : (r : Option ℕ) (o : Offer X) (s : State X) → (r ≡ None → leb o.reader 7 ≡ true) → Eight s → Eight (offered r s o).1
   unfolding heard_offer with_marks
-  offered_eight (some n) o s h e = e
-  offered_eight none o s h e = placed_eight (fate_of s o) o (heard_offer o s) (h refl) (record { pending = e.pending; held = e.held })
+  offered_eight (Some n) o s h e = e
+  offered_eight None o s h e = placed_eight (fate_of s o) o (heard_offer o s) (h refl) (record { pending = e.pending; held = e.held })
 
-  first_fails : (s : State X) (o : Offer X) → offer_refusal s o ≡ none → leb o.reader 7 ≡ true
+  first_fails : (s : State X) (o : Offer X) → offer_refusal s o ≡ None → leb o.reader 7 ≡ true
   unfolding offer_refusal refusal
-  first_fails s o h = (elim (ltb 7 o.reader) as (λ b. ltb 7 o.reader ≡ b → cond b (some 1) (refusal ((2, ninth o.group s) ∷ (3, pair33 o.group o.writer s) ∷ (4, adds (fate_of s o) s o && leb 256 (stored s)) ∷ [])) ≡ none → leb o.reader 7 ≡ true) [ true ↦ λ e k. none_not_some (some 1) 1 k refl | false ↦ λ e k. le-leb o.reader 7 (omega (arith, ltb-false 7 o.reader e)) ]) refl h
+  first_fails s o h = (elim (ltb 7 o.reader) as (λ b. ltb 7 o.reader ≡ b → cond b (Some 1) (refusal ((2, ninth o.group s) ∷ (3, pair33 o.group o.writer s) ∷ (4, adds (fate_of s o) s o && leb 256 (stored s)) ∷ [])) ≡ None → leb o.reader 7 ≡ true) [ true ↦ λ e k. none_not_some (Some 1) 1 k refl | false ↦ λ e k. le-leb o.reader 7 (omega (arith, ltb-false 7 o.reader e)) ]) refl h
 
   released_eight : (r : Option ℕ) (s : State X) (v : View) (now : ℕ) → Eight s → Eight (released_if r s v now).1
   unfolding released back_to
-  released_eight (some n) s v now e = e
-  released_eight none s v now e =
+  released_eight (Some n) s v now e = e
+  released_eight None s v now e =
       let k = release_all_all {X = X} (λ g. turn_of v now s.timeout s.writers g) (λ x. unfold turn_of in refl) (λ e. of_eight e) (λ e. of_eight e) (λ m e. unfold of_eight marked in refl) (λ x. true) (λ x e a b c. c) s.groups (all_yes s.groups) (work_of s) (unfold work_of in (e.pending, e.held)) in
       record { pending = k.0; held = k.1 }
 

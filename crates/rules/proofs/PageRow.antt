@@ -4,7 +4,7 @@ use Prim.Native.Nat.{ℕ, zero, suc, min, ◌+◌, ◌*◌, ◌≤◌, ◌<◌}
 use mathlib.Core.Path.{refl, sym, ap, ◌≡◌, ◌∙◌}
 use mathlib.Core.Bool.{Bool, true, false, cond, ◌&&◌}
 use mathlib.Core.List.{List, [], map, map-append, ◌∷◌, ◌++◌}
-use mathlib.Core.Option.{Option, some, none}
+use Rattle.std.specs.Prelude.{Option, Some, None}
 use native.Mathlib.Omega.{arith}
 use native.Mathlib.Nat.{le_of_suc-le-suc}
 use lib.Dec.{ltb, eqb}
@@ -23,8 +23,8 @@ use Rattle.rules.proofs.Reached.{fresh_reached, run_reached}
 use Rattle.rules.proofs.Page.{start_known, absent, get_at, get_behind, of_eight, Eight, run_eight}
 
 pub older_swap : (t u : ℕ) (o : Option ℕ) → older t (older u o) ≡ older u (older t o)
-older_swap t u none = let e : min u t ≡ min t u = omega arith in ap some e
-older_swap t u (some s) = let e : min (min s u) t ≡ min (min s t) u = omega arith in ap some e
+older_swap t u None = let e : min u t ≡ min t u = omega arith in ap Some e
+older_swap t u (Some s) = let e : min (min s u) t ≡ min (min s t) u = omega arith in ap Some e
 
 -- the times, one after the other
 abbrev olders : List ℕ → Option ℕ → Option ℕ
@@ -35,11 +35,11 @@ olders_older : (t : ℕ) (l : List ℕ) (o : Option ℕ) → olders l (older t o
 olders_older t [] o = refl
 olders_older t (u ∷ l) o = ap (older u) (olders_older t l o) ∙ older_swap u t (olders l o)
 
-olders_both : (l m : List ℕ) → olders l (olders m none) ≡ oldest_of (m ++ l)
+olders_both : (l m : List ℕ) → olders l (olders m None) ≡ oldest_of (m ++ l)
 unfolding oldest_of
 olders_both [] [] = refl
 olders_both (t ∷ l) [] = ap (older t) (olders_both l [])
-olders_both l (t ∷ m) = olders_older t l (olders m none) ∙ ap (older t) (olders_both l m)
+olders_both l (t ∷ m) = olders_older t l (olders m None) ∙ ap (older t) (olders_both l m)
 
 -- a row with n samples more of those times
 abbrev grown : Bool → ℕ → List ℕ → Row → Row
@@ -47,24 +47,24 @@ grown true n ts r = record { pending = n + r.pending; held = r.held; oldest = ol
 grown false n ts r = record { pending = r.pending; held = n + r.held; oldest = olders ts r.oldest }
 
 grown_none : (b : Bool) (o : Option Row) → o ≡ in_row (grown b 0 []) o
-grown_none b none = refl
-grown_none true (some r) = let e : r.pending ≡ 0 + r.pending = omega arith in ap (λ n. some (record { pending = n; held = r.held; oldest = r.oldest })) e
-grown_none false (some r) = let e : r.held ≡ 0 + r.held = omega arith in ap (λ n. some (record { pending = r.pending; held = n; oldest = r.oldest })) e
+grown_none b None = refl
+grown_none true (Some r) = let e : r.pending ≡ 0 + r.pending = omega arith in ap (λ n. Some (record { pending = n; held = r.held; oldest = r.oldest })) e
+grown_none false (Some r) = let e : r.held ≡ 0 + r.held = omega arith in ap (λ n. Some (record { pending = r.pending; held = n; oldest = r.oldest })) e
 
 grown_more : (b : Bool) (n : ℕ) (ts : List ℕ) (t : ℕ) (o : Option Row) → in_row (grown b n ts) (in_row (counted b t) o) ≡ in_row (grown b (suc n) (t ∷ ts)) o
-grown_more b n ts t none = refl
-grown_more true n ts t (some r) = let e : n + suc r.pending ≡ suc n + r.pending = omega arith in let d = olders_older t ts r.oldest in rw (e, d)
-grown_more false n ts t (some r) = let e : n + suc r.held ≡ suc n + r.held = omega arith in let d = olders_older t ts r.oldest in rw (e, d)
+grown_more b n ts t None = refl
+grown_more true n ts t (Some r) = let e : n + suc r.pending ≡ suc n + r.pending = omega arith in let d = olders_older t ts r.oldest in rw (e, d)
+grown_more false n ts t (Some r) = let e : n + suc r.held ≡ suc n + r.held = omega arith in let d = olders_older t ts r.oldest in rw (e, d)
 
 module _ {X : Type 0} (gs : List Group) (k : ℕ) where
   -- a sample whose row stands at k
   abbrev at_place : Entry X → Bool
   at_place e = is_sample e && eqb (row_of gs e) k
 
-  read_row : (b : Bool) (e : Entry X) (p : Page) → get_or (read_entry b gs e p).rows k none ≡ cond (at_place e) (in_row (counted b e.time) (get_or p.rows k none)) (get_or p.rows k none)
+  read_row : (b : Bool) (e : Entry X) (p : Page) → get_or (read_entry b gs e p).rows k None ≡ cond (at_place e) (in_row (counted b e.time) (get_or p.rows k None)) (get_or p.rows k None)
   unfolding read_entry
   read_row b e p =
-      elim (is_sample e) as (λ d. get_or (cond d (at_row (row_of gs e) (counted b e.time) p.rows) p.rows) k none ≡ cond (d && eqb (row_of gs e) k) (in_row (counted b e.time) (get_or p.rows k none)) (get_or p.rows k none)) [
+      elim (is_sample e) as (λ d. get_or (cond d (at_row (row_of gs e) (counted b e.time) p.rows) p.rows) k None ≡ cond (d && eqb (row_of gs e) k) (in_row (counted b e.time) (get_or p.rows k None)) (get_or p.rows k None)) [
         | true ↦ get_at (row_of gs e) k (counted b e.time) p.rows
         | false ↦ refl
       ]
@@ -72,11 +72,11 @@ module _ {X : Type 0} (gs : List Group) (k : ℕ) where
   abbrev grown_by : Bool → List (Entry X) → Option Row → Option Row
   grown_by b l o = in_row (grown b (count (λ e. at_place e) l) (map (λ e. e.time) (keep (λ e. at_place e) l))) o
 
-  walk_row : (b : Bool) (l : List (Entry X)) (p : Page) → get_or (read_all b gs l p).rows k none ≡ grown_by b l (get_or p.rows k none)
+  walk_row : (b : Bool) (l : List (Entry X)) (p : Page) → get_or (read_all b gs l p).rows k None ≡ grown_by b l (get_or p.rows k None)
   unfolding read_all count keep
-  walk_row b [] p = grown_none b (get_or p.rows k none)
+  walk_row b [] p = grown_none b (get_or p.rows k None)
   walk_row b (e ∷ l) p =
-      let o : Option Row = get_or p.rows k none in
+      let o : Option Row = get_or p.rows k None in
       walk_row b l (read_entry b gs e p) ∙ ap (λ x. grown_by b l x) (read_row b e p)
       ∙ (elim (at_place e) as (λ d. grown_by b l (cond d (in_row (counted b e.time) o) o) ≡ in_row (grown b (length (cond d (e ∷ keep (λ e. at_place e) l) (keep (λ e. at_place e) l))) (map (λ e. e.time) (cond d (e ∷ keep (λ e. at_place e) l) (keep (λ e. at_place e) l)))) o) [
         | true ↦ grown_more b (count (λ e. at_place e) l) (map (λ e. e.time) (keep (λ e. at_place e) l)) e.time o
@@ -84,34 +84,34 @@ module _ {X : Type 0} (gs : List Group) (k : ℕ) where
       ])
 
 -- an empty row that grew twice
-grown_empty : (m n : ℕ) (t u v : List ℕ) → v ≡ t ++ u → in_row (grown false n u) (in_row (grown true m t) (some empty_row)) ≡ some (record { pending = m; held = n; oldest = oldest_of v })
+grown_empty : (m n : ℕ) (t u v : List ℕ) → v ≡ t ++ u → in_row (grown false n u) (in_row (grown true m t) (Some empty_row)) ≡ Some (record { pending = m; held = n; oldest = oldest_of v })
 unfolding empty_row
 grown_empty m n t u v e =
     let a : m + 0 ≡ m = omega arith in
     let b : n + 0 ≡ n = omega arith in
-    let d : olders u (olders t none) ≡ oldest_of v = olders_both u t ∙ ap (λ l. oldest_of l) (sym e) in
+    let d : olders u (olders t None) ≡ oldest_of v = olders_both u t ∙ ap (λ l. oldest_of l) (sym e) in
     rw (a, b, d)
 
 -- the rows before the walk
-none_rows : (n i : ℕ) (l : List (Option Row)) → ((j : ℕ) → get_or l j none ≡ none) → get_or (replicate n absent ++ l) i none ≡ none
+none_rows : (n i : ℕ) (l : List (Option Row)) → ((j : ℕ) → get_or l j None ≡ None) → get_or (replicate n absent ++ l) i None ≡ None
 none_rows zero i l f = f i
 none_rows (suc n) zero l f = refl
 none_rows (suc n) (suc i) l f = none_rows n i l f
 
-start_none : (k i : ℕ) → get_or (start_rows k []) i none ≡ none
+start_none : (k i : ℕ) → get_or (start_rows k []) i None ≡ None
 unfolding start_rows
 start_none zero i = refl
 start_none (suc k) i = none_rows 8 i (start_rows k []) (start_none k)
 
-pub start_absent : (k j q : ℕ) (gs : List Group) → length gs ≤ j → get_or (start_rows k gs) (8 * j + q) none ≡ none
+pub start_absent : (k j q : ℕ) (gs : List Group) → length gs ≤ j → get_or (start_rows k gs) (8 * j + q) None ≡ None
 unfolding start_rows
 start_absent k j q [] h = start_none k (8 * j + q)
 start_absent zero j q (g ∷ gs) h = refl
 start_absent (suc k) zero q (g ∷ gs) h = absurd (omega arith)
 start_absent (suc k) (suc j) q (g ∷ gs) h =
     let e : 8 * suc j + q ≡ 8 + (8 * j + q) = omega arith in
-    ap (λ m. get_or (replicate 8 (some empty_row) ++ start_rows k gs) m none) e
-    ∙ get_behind 8 (8 * j + q) (some empty_row) none (start_rows k gs) ∙ start_absent k j q gs (le_of_suc-le-suc h)
+    ap (λ m. get_or (replicate 8 (Some empty_row) ++ start_rows k gs) m None) e
+    ∙ get_behind 8 (8 * j + q) (Some empty_row) None (start_rows k gs) ∙ start_absent k j q gs (le_of_suc-le-suc h)
 
 -- two tests that agree where a third holds keep the same of a list whose every one passes it
 keep_where : {A : Type 0} (p q c : A → Bool) → ((a : A) → c a ≡ true → p a ≡ q a) → (l : List A) → all c l ≡ true → keep p l ≡ keep q l
@@ -170,7 +170,7 @@ module _ {X : Type 0} (s : State X) (order : ascending s.groups ≡ true) (j r :
   kept_cell h l e = keep_where (λ e. at_place s.groups (8 * j + r) e) (λ e. in_cell g r e) (λ e. of_eight e) (in_cell_lem h) l e
 
   -- of a known group: what its samples at the reader come to
-  row_known : (i : j < length s.groups) (few : length s.groups ≤ 8) → Eight s → get_or (page_of s).rows (8 * j + r) none ≡ some (cell s g r)
+  row_known : (i : j < length s.groups) (few : length s.groups ≤ 8) → Eight s → get_or (page_of s).rows (8 * j + r) None ≡ Some (cell s g r)
   unfolding page_of cell count
   row_known i few h =
       let start : Page = record { rows = start_rows 8 s.groups; read = 0 } in
@@ -179,17 +179,17 @@ module _ {X : Type 0} (s : State X) (order : ascending s.groups ≡ true) (j r :
       let t : List (Entry X) → List ℕ = λ l. map (λ e. e.time) (keep (λ e. in_cell g r e) l) in
       let p = kept_cell i s.pending h.pending in
       let q = kept_cell i s.held h.held in
-      let z : in_row (grown false (n s.held) (t s.held)) (in_row (grown true (n s.pending) (t s.pending)) (some empty_row)) ≡ some (record { pending = n s.pending; held = n s.held; oldest = oldest_of (t (s.pending ++ s.held)) })
+      let z : in_row (grown false (n s.held) (t s.held)) (in_row (grown true (n s.pending) (t s.pending)) (Some empty_row)) ≡ Some (record { pending = n s.pending; held = n s.held; oldest = oldest_of (t (s.pending ++ s.held)) })
       = grown_empty (n s.pending) (n s.held) (t s.pending) (t s.held) (t (s.pending ++ s.held)) (ap (map (λ e. e.time)) (keep_append (λ e. in_cell g r e) s.pending s.held) ∙ map-append (λ e. e.time) (keep (λ e. in_cell g r e) s.pending) (keep (λ e. in_cell g r e) s.held)) in
       walk_row s.groups k false s.held (read_all true s.groups s.pending start)
       ∙ ap (λ o. grown_by s.groups k false s.held o) (walk_row s.groups k true s.pending start)
       ∙ ap (λ o. grown_by s.groups k false s.held (grown_by s.groups k true s.pending o)) (start_known 8 j r s.groups i (omega (arith, i, few)) c)
-      ∙ ap (λ l. grown_by s.groups k false s.held (in_row (grown true (length l) (map (λ e. e.time) l)) (some empty_row))) p
-      ∙ ap (λ l. in_row (grown false (length l) (map (λ e. e.time) l)) (in_row (grown true (n s.pending) (t s.pending)) (some empty_row))) q
+      ∙ ap (λ l. grown_by s.groups k false s.held (in_row (grown true (length l) (map (λ e. e.time) l)) (Some empty_row))) p
+      ∙ ap (λ l. in_row (grown false (length l) (map (λ e. e.time) l)) (in_row (grown true (n s.pending) (t s.pending)) (Some empty_row))) q
       ∙ z
 
   -- past the last known group: none
-  row_absent : length s.groups ≤ j → get_or (page_of s).rows (8 * j + r) none ≡ none
+  row_absent : length s.groups ≤ j → get_or (page_of s).rows (8 * j + r) None ≡ None
   unfolding page_of
   row_absent i =
       let start : Page = record { rows = start_rows 8 s.groups; read = 0 } in
@@ -199,12 +199,12 @@ module _ {X : Type 0} (s : State X) (order : ascending s.groups ≡ true) (j r :
       ∙ ap (λ o. grown_by s.groups k false s.held (grown_by s.groups k true s.pending o)) (start_absent 8 j r s.groups i)
 
 -- after any calls, each of the 64 rows: of the group at place j and reader r, absent past the last known group
-pub page_row : {X : Type 0} (t : ℕ) (cs : List (Call X)) (j r : ℕ) → r < 8 → (let s : State X = run (fresh t) cs in get_or (page_of s).rows (8 * j + r) none ≡ cond (ltb j (length s.groups)) (some (cell s (get_or s.groups j no_group).guid r)) none)
+pub page_row : {X : Type 0} (t : ℕ) (cs : List (Call X)) (j r : ℕ) → r < 8 → (let s : State X = run (fresh t) cs in get_or (page_of s).rows (8 * j + r) None ≡ cond (ltb j (length s.groups)) (Some (cell s (get_or s.groups j no_group).guid r)) None)
 page_row {X} t cs j r c =
     let s : State X = run (fresh t) cs in
     let h : Reached s = run_reached cs (fresh t) (fresh_reached t) in
     let e : Eight s = run_eight (fresh t) cs (unfold fresh all in record { pending = refl; held = refl }) in
-    (elim (ltb j (length s.groups)) as (λ b. ltb j (length s.groups) ≡ b → get_or (page_of s).rows (8 * j + r) none ≡ cond b (some (cell s (get_or s.groups j no_group).guid r)) none) [
+    (elim (ltb j (length s.groups)) as (λ b. ltb j (length s.groups) ≡ b → get_or (page_of s).rows (8 * j + r) None ≡ cond b (Some (cell s (get_or s.groups j no_group).guid r)) None) [
       | true ↦ λ l. row_known s h.groups_ordered j r c (ltb-true j (length s.groups) l) h.most_groups e
       | false ↦ λ l. row_absent s h.groups_ordered j r c (omega (arith, ltb-false j (length s.groups) l))
     ]) refl

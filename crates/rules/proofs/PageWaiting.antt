@@ -3,7 +3,7 @@ use Prim.Native.Nat.{ℕ, zero, suc, ◌+◌, ◌*◌, ◌≤◌, ◌<◌}
 use mathlib.Core.Path.{refl, sym, ap, ◌≡◌, ◌∙◌}
 use mathlib.Core.Bool.{Bool, true, false, cond, ◌&&◌, ◌||◌}
 use mathlib.Core.List.{List, [], ◌∷◌, ◌++◌}
-use mathlib.Core.Option.{Option, some, none}
+use Rattle.std.specs.Prelude.{Option, Some, None}
 use native.Mathlib.Omega.{arith}
 use lib.Dec.{leb, eqb}
 use lib.ListN.{length, get_or, replicate}
@@ -21,25 +21,25 @@ use Rattle.rules.proofs.Page.{start_known, get_at, of_eight, Eight, run_eight}
 
 -- the samples that a row counts
 abbrev amount : Option Row → ℕ
-amount none = 0
-amount (some r) = r.pending + r.held
+amount None = 0
+amount (Some r) = r.pending + r.held
 
 amount_more : (b : Bool) (t : ℕ) (o : Option Row) → is_some o ≡ true → amount (in_row (counted b t) o) ≡ suc (amount o)
 unfolding is_some
-amount_more b t none h = not_both false h refl
-amount_more true t (some r) h = omega arith
-amount_more false t (some r) h = omega arith
+amount_more b t None h = not_both false h refl
+amount_more true t (Some r) h = omega arith
+amount_more false t (Some r) h = omega arith
 
-zero_rows : (n i : ℕ) (o : Option Row) (l : List (Option Row)) → amount o ≡ 0 → ((j : ℕ) → amount (get_or l j none) ≡ 0) → amount (get_or (replicate n o ++ l) i none) ≡ 0
+zero_rows : (n i : ℕ) (o : Option Row) (l : List (Option Row)) → amount o ≡ 0 → ((j : ℕ) → amount (get_or l j None) ≡ 0) → amount (get_or (replicate n o ++ l) i None) ≡ 0
 zero_rows zero i o l h f = f i
 zero_rows (suc n) zero o l h f = h
 zero_rows (suc n) (suc i) o l h f = zero_rows n i o l h f
 
-start_zero : (k : ℕ) (gs : List Group) (i : ℕ) → amount (get_or (start_rows k gs) i none) ≡ 0
+start_zero : (k : ℕ) (gs : List Group) (i : ℕ) → amount (get_or (start_rows k gs) i None) ≡ 0
 unfolding start_rows empty_row
 start_zero zero gs i = refl
-start_zero (suc k) [] i = zero_rows 8 i none (start_rows k []) refl (start_zero k [])
-start_zero (suc k) (g ∷ gs) i = zero_rows 8 i (some empty_row) (start_rows k gs) (omega arith) (start_zero k gs)
+start_zero (suc k) [] i = zero_rows 8 i None (start_rows k []) refl (start_zero k [])
+start_zero (suc k) (g ∷ gs) i = zero_rows 8 i (Some empty_row) (start_rows k gs) (omega arith) (start_zero k gs)
 
 -- ---- sums
 
@@ -67,7 +67,7 @@ sum_one (suc k) j f g l h s =
 
 -- the pending and held samples of a reader's eight rows
 unfoldable pub in_rows : ℕ → List (Option Row) → ℕ
-in_rows r l = sum_below 8 (λ k. amount (get_or l (8 * k + r) none))
+in_rows r l = sum_below 8 (λ k. amount (get_or l (8 * k + r) None))
 
 known_place : (g : Guid) (l : List Group) → knows_group g l ≡ true → index_of (λ x. is_group g x) l < length l
 unfolding knows_group any index_of
@@ -80,17 +80,17 @@ placed gs e = knows_group e.group gs && leb e.reader 7
 
 -- the known groups' rows are there
 abbrev There : List Group → List (Option Row) → Type 0
-There gs l = (j q : ℕ) → j < length gs → q < 8 → is_some (get_or l (8 * j + q) none) ≡ true
+There gs l = (j q : ℕ) → j < length gs → q < 8 → is_some (get_or l (8 * j + q) None) ≡ true
 
 there_on : (gs : List Group) (i : ℕ) (f : Row → Row) (l : List (Option Row)) → There gs l → There gs (at_row i f l)
 unfolding is_some
 there_on gs i f l h j q a b =
     ap (λ o. is_some o) (get_at i (8 * j + q) f l)
-    ∙ (elim (eqb i (8 * j + q)) as (λ c. is_some (cond c (in_row f (get_or l (8 * j + q) none)) (get_or l (8 * j + q) none)) ≡ true) [ true ↦ some_in (get_or l (8 * j + q) none) (h j q a b) | false ↦ h j q a b ])
+    ∙ (elim (eqb i (8 * j + q)) as (λ c. is_some (cond c (in_row f (get_or l (8 * j + q) None)) (get_or l (8 * j + q) None)) ≡ true) [ true ↦ some_in (get_or l (8 * j + q) None) (h j q a b) | false ↦ h j q a b ])
   where
     some_in : (o : Option Row) → is_some o ≡ true → is_some (in_row f o) ≡ true
-    some_in none e = e
-    some_in (some r) e = refl
+    some_in None e = e
+    some_in (Some r) e = refl
 
 module _ {X : Type 0} (gs : List Group) (few : length gs ≤ 8) where
   -- a sample counts once for its reader and for no other
@@ -103,21 +103,21 @@ module _ {X : Type 0} (gs : List Group) (few : length gs ≤ 8) where
       let q : ℕ = e.reader in
       let ql : q ≤ 7 = leb-true q 7 (and_right (knows_group e.group gs) _ h) in
       let f : Row → Row = counted b e.time in
-      (elim (eqb r q) as (λ d. eqb r q ≡ d → sum_below 8 (λ k. amount (get_or (at_row (8 * j + q) f l) (8 * k + r) none)) ≡ sum_below 8 (λ k. amount (get_or l (8 * k + r) none)) + cond d 1 0) [
+      (elim (eqb r q) as (λ d. eqb r q ≡ d → sum_below 8 (λ k. amount (get_or (at_row (8 * j + q) f l) (8 * k + r) None)) ≡ sum_below 8 (λ k. amount (get_or l (8 * k + r) None)) + cond d 1 0) [
         | true ↦ λ d.
             let s : r ≡ q = eqb-true r q d in
             omega (
               arith,
-              sum_one 8 j (λ k. amount (get_or l (8 * k + r) none)) (λ k. amount (get_or (at_row (8 * j + q) f l) (8 * k + r) none)) (omega (arith, jl, few))
-                  (ap amount (get_at (8 * j + q) (8 * j + r) f l ∙ ap (λ u. cond u (in_row f (get_or l (8 * j + r) none)) (get_or l (8 * j + r) none)) (eq-eqb (8 * j + q) (8 * j + r) (omega (arith, s)))) ∙ amount_more b e.time (get_or l (8 * j + r) none) (t j r jl c))
-                  (λ i n. ap amount (get_at (8 * j + q) (8 * i + r) f l ∙ ap (λ u. cond u (in_row f (get_or l (8 * i + r) none)) (get_or l (8 * i + r) none)) (let v : j ≡ i → ⊥ = eqb-false j i n in ne_eqb (8 * j + q) (8 * i + r) (λ w. v (omega (arith, w, s)))))),
+              sum_one 8 j (λ k. amount (get_or l (8 * k + r) None)) (λ k. amount (get_or (at_row (8 * j + q) f l) (8 * k + r) None)) (omega (arith, jl, few))
+                  (ap amount (get_at (8 * j + q) (8 * j + r) f l ∙ ap (λ u. cond u (in_row f (get_or l (8 * j + r) None)) (get_or l (8 * j + r) None)) (eq-eqb (8 * j + q) (8 * j + r) (omega (arith, s)))) ∙ amount_more b e.time (get_or l (8 * j + r) None) (t j r jl c))
+                  (λ i n. ap amount (get_at (8 * j + q) (8 * i + r) f l ∙ ap (λ u. cond u (in_row f (get_or l (8 * i + r) None)) (get_or l (8 * i + r) None)) (let v : j ≡ i → ⊥ = eqb-false j i n in ne_eqb (8 * j + q) (8 * i + r) (λ w. v (omega (arith, w, s)))))),
             )
         | false ↦ λ d.
             let s : r ≡ q → ⊥ = eqb-false r q d in
             omega (
               arith,
-              sum_same 8 (λ k. amount (get_or (at_row (8 * j + q) f l) (8 * k + r) none)) (λ k. amount (get_or l (8 * k + r) none))
-                  (λ i n. ap amount (get_at (8 * j + q) (8 * i + r) f l ∙ ap (λ u. cond u (in_row f (get_or l (8 * i + r) none)) (get_or l (8 * i + r) none)) (ne_eqb (8 * j + q) (8 * i + r) (λ w. s (omega (arith, w, c, ql)))))),
+              sum_same 8 (λ k. amount (get_or (at_row (8 * j + q) f l) (8 * k + r) None)) (λ k. amount (get_or l (8 * k + r) None))
+                  (λ i n. ap amount (get_at (8 * j + q) (8 * i + r) f l ∙ ap (λ u. cond u (in_row f (get_or l (8 * i + r) None)) (get_or l (8 * i + r) None)) (ne_eqb (8 * j + q) (8 * i + r) (λ w. s (omega (arith, w, c, ql)))))),
             )
       ]) refl
 
@@ -145,7 +145,7 @@ page_waiting_of s few p h r c =
     let start : Page = record { rows = start_rows 8 s.groups; read = 0 } in
     let a = read_rows s.groups few true r c s.pending start p (λ j q u v. ap (λ o. is_some o) (start_known 8 j q s.groups u (omega (arith, u, few)) v) ∙ (unfold is_some in refl)) in
     let b = read_rows s.groups few false r c s.held (read_all true s.groups s.pending start) h a.1 in
-    let z : in_rows r (start_rows 8 s.groups) ≡ 0 = unfold in_rows in sum_same 8 (λ k. amount (get_or (start_rows 8 s.groups) (8 * k + r) none)) (λ k. 0) (λ i l. start_zero 8 s.groups (8 * i + r)) in
+    let z : in_rows r (start_rows 8 s.groups) ≡ 0 = unfold in_rows in sum_same 8 (λ k. amount (get_or (start_rows 8 s.groups) (8 * k + r) None)) (λ k. 0) (λ i l. start_zero 8 s.groups (8 * i + r)) in
     rw (le-ltb 7 r (omega (arith, c))) (omega (arith, a.0, b.0, z))
 
 -- ---- of every state that calls reach

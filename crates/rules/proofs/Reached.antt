@@ -3,7 +3,7 @@ use Prim.Native.Nat.{ℕ, ◌+◌, ◌≤◌}
 use mathlib.Core.Path.{◌≡◌, refl, sym, ap, ◌∙◌}
 use mathlib.Core.Bool.{Bool, true, false, ◌&&◌, ◌||◌, not, cond}
 use mathlib.Core.List.{List, [], ◌∷◌, ◌++◌, map}
-use mathlib.Core.Option.{Option, some, none}
+use Rattle.std.specs.Prelude.{Option, Some, None}
 use native.Mathlib.Omega.{arith}
 use lib.Dec.{leb, ltb}
 use lib.ListN.{length, length-append}
@@ -56,14 +56,14 @@ writer_group h v gs ws a k = any_all (λ (x : Writer). same_guid h x.group && sa
 
 -- ---- refusals and fates
 
-pub refusal_first : (n : ℕ) (b : Bool) (l : List (ℕ × Bool)) → refusal ((n, b) ∷ l) ≡ none → b ≡ false
+pub refusal_first : (n : ℕ) (b : Bool) (l : List (ℕ × Bool)) → refusal ((n, b) ∷ l) ≡ None → b ≡ false
 unfolding refusal
-refusal_first n true l e = none_not_some (some n) n e refl
+refusal_first n true l e = none_not_some (Some n) n e refl
 refusal_first n false l e = refl
 
-pub refusal_rest : (n : ℕ) (b : Bool) (l : List (ℕ × Bool)) → refusal ((n, b) ∷ l) ≡ none → refusal l ≡ none
+pub refusal_rest : (n : ℕ) (b : Bool) (l : List (ℕ × Bool)) → refusal ((n, b) ∷ l) ≡ None → refusal l ≡ None
 unfolding refusal
-refusal_rest n true l e = none_not_some (some n) n e refl
+refusal_rest n true l e = none_not_some (Some n) n e refl
 refusal_rest n false l e = e
 
 fate_stored : (b j : Bool) → fate b j ≡ is_stored → b ≡ true
@@ -243,24 +243,24 @@ module _ {X : Type 0} where
 
   offer_reached : (s : State X) (o : Offer X) (x : Option ℕ) → Reached s → offer_refusal s o ≡ x → Reached (offered x s o).1
   unfolding offer_refusal heard_offer saw
-  offer_reached s o (some n) r e = r
-  offer_reached s o none r e =
-      let a : refusal ((2, ninth o.group s) ∷ (3, pair33 o.group o.writer s) ∷ (4, adds (fate_of s o) s o && leb 256 (stored s)) ∷ []) ≡ none = refusal_rest 1 (ltb 7 o.reader) _ e in
-      let b : refusal ((3, pair33 o.group o.writer s) ∷ (4, adds (fate_of s o) s o && leb 256 (stored s)) ∷ []) ≡ none = refusal_rest 2 (ninth o.group s) _ a in
-      let c : refusal ((4, adds (fate_of s o) s o && leb 256 (stored s)) ∷ []) ≡ none = refusal_rest 3 (pair33 o.group o.writer s) _ b in
+  offer_reached s o (Some n) r e = r
+  offer_reached s o None r e =
+      let a : refusal ((2, ninth o.group s) ∷ (3, pair33 o.group o.writer s) ∷ (4, adds (fate_of s o) s o && leb 256 (stored s)) ∷ []) ≡ None = refusal_rest 1 (ltb 7 o.reader) _ e in
+      let b : refusal ((3, pair33 o.group o.writer s) ∷ (4, adds (fate_of s o) s o && leb 256 (stored s)) ∷ []) ≡ None = refusal_rest 2 (ninth o.group s) _ a in
+      let c : refusal ((4, adds (fate_of s o) s o && leb 256 (stored s)) ∷ []) ≡ None = refusal_rest 3 (pair33 o.group o.writer s) _ b in
       placed s o (fate_of s o) r
       (heard s r o.group o.writer (λ w. saw o.reader (number o.number) o.digest w) (λ x. refl) (refusal_first 2 (ninth o.group s) _ a) (refusal_first 3 (pair33 o.group o.writer s) _ b))
       refl (refusal_first 4 (adds (fate_of s o) s o && leb 256 (stored s)) _ c)
 
-  done_reached : (s : State X) (x : Option ℕ) (t : State X) → Reached s → (x ≡ none → Reached t) → Reached (done x s t).1
-  done_reached s (some n) t r f = r
-  done_reached s none t r f = f refl
+  done_reached : (s : State X) (x : Option ℕ) (t : State X) → Reached s → (x ≡ None → Reached t) → Reached (done x s t).1
+  done_reached s (Some n) t r f = r
+  done_reached s None t r f = f refl
 
   gap_reached : (s : State X) (x : Gap) → Reached s → Reached (gap s x).1
   unfolding gap
   gap_reached s x r =
       done_reached s (refusal ((1, ltb 7 x.reader) ∷ (2, ninth x.group s) ∷ (3, pair33 x.group x.writer s) ∷ [])) _ r
-      (λ e. let a : refusal ((2, ninth x.group s) ∷ (3, pair33 x.group x.writer s) ∷ []) ≡ none = refusal_rest 1 (ltb 7 x.reader) _ e in
+      (λ e. let a : refusal ((2, ninth x.group s) ∷ (3, pair33 x.group x.writer s) ∷ []) ≡ None = refusal_rest 1 (ltb 7 x.reader) _ e in
       heard s r x.group x.writer (λ w. gapped x.reader (number x.number) w) (λ y. unfold gapped in refl) (refusal_first 2 (ninth x.group s) _ a) (refusal_first 3 (pair33 x.group x.writer s) [] (refusal_rest 2 (ninth x.group s) _ a)))
 
   heartbeat_reached : (s : State X) (h : Heartbeat) → Reached s → Reached (heartbeat s h).1
@@ -275,8 +275,8 @@ module _ {X : Type 0} where
       (λ g. committed_change g (λ x. is_group h.group x) (λ x. announced_to (number h.current) x) (λ x. unfold announced_to in refl) (λ x. unfold announced_to in refl) (hear_group h.group s.groups)))
 
   release_reached : (s : State X) (v : View) (now : ℕ) (x : Option ℕ) → Reached s → Reached (released_if x s v now).1
-  release_reached s v now (some n) r = r
-  release_reached s v now none r = released_reached s v now r
+  release_reached s v now (Some n) r = r
+  release_reached s v now None r = released_reached s v now r
 
   pub step_reached : (s : State X) (c : Call X) → Reached s → Reached (step s c).1
   unfolding step offer release

@@ -3,7 +3,7 @@ use Prim.Native.Nat.{ℕ}
 use mathlib.Core.Path.{◌≡◌, refl}
 use mathlib.Core.Bool.{true}
 use mathlib.Core.List.{List, [], ◌∷◌}
-use mathlib.Core.Option.{Option, some, none}
+use Rattle.std.specs.Prelude.{Option, Some, None}
 use lib.Dec.{ltb}
 use Rattle.laws.specs.Lists.{change}
 use Rattle.rules.specs.Entry.{Entry}
@@ -39,8 +39,8 @@ module _ {X : Type 0} where
 
   done_same : (r : Option ℕ) (s : State X) (gs : List Group) (ws : List Writer) → SameStore s (done r s (with_marks gs ws s)).1
   unfolding with_marks
-  done_same (some n) s gs ws = record { pending = refl; held = refl; counts = refl }
-  done_same none s gs ws = record { pending = refl; held = refl; counts = refl }
+  done_same (Some n) s gs ws = record { pending = refl; held = refl; counts = refl }
+  done_same None s gs ws = record { pending = refl; held = refl; counts = refl }
 
   pub heartbeat_same : (s : State X) (h : Heartbeat) → SameStore s (heartbeat s h).1
   unfolding heartbeat
@@ -64,7 +64,7 @@ module _ {X : Type 0} where
       → P (record { out = (released s v now).1.out; lost = (released s v now).1.lost }) (back_to s (released s v now))
       → P (outcome_of (release s v now room).0) (release s v now room).1
   unfolding release
-  release_cases P s v now room a b = elim (release_refusal s v room) as (λ r. P (outcome_of (released_if r s v now).0) (released_if r s v now).1) [ some n ↦ a | none ↦ b ]
+  release_cases P s v now room a b = elim (release_refusal s v room) as (λ r. P (outcome_of (released_if r s v now).0) (released_if r s v now).1) [ Some n ↦ a | None ↦ b ]
 
   -- what every call keeps, a run keeps
   pub story_stays : (P : Story X → Type 0) → ((y : Story X) (c : Call X) → P y → P (follow y c)) → (cs : List (Call X)) (y : Story X) → P y → P (story y cs)

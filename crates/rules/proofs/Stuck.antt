@@ -3,7 +3,7 @@ use Prim.Native.Nat.{ℕ, ◌+◌, ◌≤◌}
 use mathlib.Core.Path.{◌≡◌, refl, sym, ap, ◌∙◌, subst}
 use mathlib.Core.Bool.{Bool, true, false, ◌&&◌, ◌||◌, not}
 use mathlib.Core.List.{List, [], ◌∷◌}
-use mathlib.Core.Option.{Option, some, none}
+use Rattle.std.specs.Prelude.{Option, Some, None}
 use mathlib.Core.Logic.{inl, inr}
 use native.Mathlib.Omega.{arith}
 use lib.IntN.{ℤ}
@@ -50,22 +50,22 @@ module _ {X : Type 0} where
 
   -- ---- where a group's rounds stop
 
-  module _ (t : Turn) (w : Work X) (n m : ℕ) (fresh-since : (e : Entry X) → young t (some e) ≡ true → m ≤ e.time) where
+  module _ (t : Turn) (w : Work X) (n m : ℕ) (fresh-since : (e : Entry X) → young t (Some e) ≡ true → m ≤ e.time) where
     -- an ended set waits: its first member is young
-    set_stop : (z : ℤ) → waits t z w.held ≡ true → empty_at t w (some z) ≡ false → count (λ e. is_above t.guid n e) w.held ≡ 0 → Owed t.guid n m w
+    set_stop : (z : ℤ) → waits t z w.held ≡ true → empty_at t w (Some z) ≡ false → count (λ e. is_above t.guid n e) w.held ≡ 0 → Owed t.guid n m w
     unfolding waits is_member in_set is_above member_with
     set_stop z s e a =
         let is : Entry X → Bool = λ x. is_member t.guid z x in
         let i : any is w.held ≡ true = not-false _ (sym (ap (λ b. b && not (any is w.held)) s) ∙ e) in
         let (x, f) = find_some is w.held (count_any is w.held i) in
-        let y : young t (some x) ≡ true = ap (λ o. young t o) (sym f) ∙ and_right (end_missing t.guid z t.counted w.held) _ s in
+        let y : young t (Some x) ≡ true = ap (λ o. young t o) (sym f) ∙ and_right (end_missing t.guid z t.counted w.held) _ s in
         let g : of_group t.guid x ≡ true = and_left (of_group t.guid x) _ (and_left (in_set t.guid z x) _ (find_test is w.held x f)) in
         let u : ltb n x.number ≡ false = true_or_false _ (λ b. omega (arith, find_count is (λ e. is_above t.guid n e) w.held x f (and_true _ _ g b))) in
         let p : is_sample x ≡ true = and_right (in_set t.guid z x) _ (find_test is w.held x f) in
         omega (arith, find_count is (λ e. member_with (λ e. is_owed t.guid n m e) e) w.held x f (and_true _ _ p (owes t.guid n m x g (ltb-false n x.number u) (fresh-since x y))))
 
     -- the lowest pending number waits: its first entry is young
-    head_stop : (a : ℕ) → next t w.pending ≡ some a → young t (find (λ e. is_head t a e) w.pending) ≡ true → 1 ≤ count (λ e. is_at t.guid n e) w.pending → Owed t.guid n m w
+    head_stop : (a : ℕ) → next t w.pending ≡ Some a → young t (find (λ e. is_head t a e) w.pending) ≡ true → 1 ≤ count (λ e. is_at t.guid n e) w.pending → Owed t.guid n m w
     unfolding is_at is_head
     head_stop a l h p =
         let of : Entry X → Bool = λ e. of_group t.guid e in
@@ -76,7 +76,7 @@ module _ {X : Type 0} where
         let u : y.number ≤ n = omega (arith, eqb-true n x.number (and_right (of x) _ c), leb-true a x.number b, eqb-true a y.number (and_right (of y) _ i)) in
         omega (arith, find_count (λ e. is_head t a e) (λ e. is_owed t.guid n m e) w.pending y f (owes t.guid n m y (and_left (of y) _ i) u (fresh-since y (ap (λ o. young t o) (sym f) ∙ h))))
 
-    stop : round t w ≡ none → empty_at t w (lowest_ended t.guid w.held) ≡ false
+    stop : round t w ≡ None → empty_at t w (lowest_ended t.guid w.held) ≡ false
         → 1 ≤ count (λ e. is_at t.guid n e) w.pending → count (λ e. is_above t.guid n e) w.held ≡ 0 → Owed t.guid n m w
     unfolding is_at
     stop r e p a = go (why_stopped t w r)
@@ -95,7 +95,7 @@ module _ {X : Type 0} where
   unfolding count
   grouped g r l k h = ap length (sym (keep_keep r (λ e. of_group g e) l) ∙ ap (λ x. keep r x) h ∙ keep_keep r (λ e. of_group g e) k)
 
-  group_stops : (t : Turn) (x : Group) (w : Work X) → round t (release_group t x w) ≡ none
+  group_stops : (t : Turn) (x : Group) (w : Work X) → round t (release_group t x w) ≡ None
   unfolding release_group enough at_group
   group_stops t x w = stops t (at_group x w)
 
@@ -104,7 +104,7 @@ module _ {X : Type 0} where
   owed_blind g n m k e = refl
 
   module _ (t : Group → Turn) (same : (x : Group) → (t x).guid ≡ x.guid) (g : Guid) (n m : ℕ)
-      (fresh-since : (x : Group) (e : Entry X) → young (t x) (some e) ≡ true → m ≤ e.time) where
+      (fresh-since : (x : Group) (e : Entry X) → young (t x) (Some e) ≡ true → m ≤ e.time) where
     -- the group's own rounds stopped so, and the later groups' leave its entries
     here : (x : Group) (gs : List Group) (w : Work X) → all (λ y. before x.guid y.guid) gs ≡ true → is_group g x ≡ true
         → empty_at (t x) (release_group (t x) x w) (lowest_ended x.guid (release_group (t x) x w).held) ≡ false

@@ -3,7 +3,7 @@ use Prim.Native.Nat.{ℕ, zero, suc, ◌-◌}
 use mathlib.Core.Path.{◌≡◌, refl, ap, subst}
 use mathlib.Core.Bool.{Bool, true, false, not}
 use mathlib.Core.List.{List, [], ◌∷◌}
-use mathlib.Core.Option.{Option, some, none}
+use Rattle.std.specs.Prelude.{Option, Some, None}
 use mathlib.Core.Logic.{◌⊎◌, inl, inr}
 use lib.IntN.{ℤ}
 use lib.ListN.{length}
@@ -20,37 +20,37 @@ use Rattle.guids.proofs.Guids.{same_eq}
 
 -- the answer of a round, with the tests that led to it
 pub data Turned {X : Type 0} (t : Turn) (w : Work X) : Option (Work X) → Type 0 where
-  finishes : (z : ℤ) → lowest_ended t.guid w.held ≡ some z → waits t z w.held ≡ false
-      → Turned t w (some (finish t z w))
-  set_waits : (z : ℤ) → lowest_ended t.guid w.held ≡ some z → waits t z w.held ≡ true → Turned t w none
-  nothing_next : lowest_ended t.guid w.held ≡ none → next t w.pending ≡ none → Turned t w none
-  commits_ready : (n : ℕ) → lowest_ended t.guid w.held ≡ none → next t w.pending ≡ some n
-      → ready t w.committed n w.pending ≡ true → Turned t w (some (commit t n 0 w))
-  commits_old : (n : ℕ) → lowest_ended t.guid w.held ≡ none → next t w.pending ≡ some n
+  finishes : (z : ℤ) → lowest_ended t.guid w.held ≡ Some z → waits t z w.held ≡ false
+      → Turned t w (Some (finish t z w))
+  set_waits : (z : ℤ) → lowest_ended t.guid w.held ≡ Some z → waits t z w.held ≡ true → Turned t w None
+  nothing_next : lowest_ended t.guid w.held ≡ None → next t w.pending ≡ None → Turned t w None
+  commits_ready : (n : ℕ) → lowest_ended t.guid w.held ≡ None → next t w.pending ≡ Some n
+      → ready t w.committed n w.pending ≡ true → Turned t w (Some (commit t n 0 w))
+  commits_old : (n : ℕ) → lowest_ended t.guid w.held ≡ None → next t w.pending ≡ Some n
       → ready t w.committed n w.pending ≡ false → young t (find (λ e. is_head t n e) w.pending) ≡ false
-      → Turned t w (some (commit t n (n - suc w.committed) w))
-  head_waits : (n : ℕ) → lowest_ended t.guid w.held ≡ none → next t w.pending ≡ some n
+      → Turned t w (Some (commit t n (n - suc w.committed) w))
+  head_waits : (n : ℕ) → lowest_ended t.guid w.held ≡ None → next t w.pending ≡ Some n
       → ready t w.committed n w.pending ≡ false → young t (find (λ e. is_head t n e) w.pending) ≡ true
-      → Turned t w none
+      → Turned t w None
 
 module _ {X : Type 0} where
-  set_turns : (t : Turn) (w : Work X) (z : ℤ) (b : Bool) → lowest_ended t.guid w.held ≡ some z → waits t z w.held ≡ b → Turned t w (finish_or b t z w)
+  set_turns : (t : Turn) (w : Work X) (z : ℤ) (b : Bool) → lowest_ended t.guid w.held ≡ Some z → waits t z w.held ≡ b → Turned t w (finish_or b t z w)
   set_turns t w z true d e = set_waits z d e
   set_turns t w z false d e = finishes z d e
 
-  head_turns : (t : Turn) (w : Work X) (n : ℕ) (b y : Bool) → lowest_ended t.guid w.held ≡ none → next t w.pending ≡ some n
+  head_turns : (t : Turn) (w : Work X) (n : ℕ) (b y : Bool) → lowest_ended t.guid w.held ≡ None → next t w.pending ≡ Some n
       → ready t w.committed n w.pending ≡ b → young t (find (λ e. is_head t n e) w.pending) ≡ y → Turned t w (commit_if b y t n w)
   head_turns t w n true y c d e f = commits_ready n c d e
   head_turns t w n false true c d e f = head_waits n c d e f
   head_turns t w n false false c d e f = commits_old n c d e f
 
-  next_turns : (t : Turn) (w : Work X) (o : Option ℕ) → lowest_ended t.guid w.held ≡ none → next t w.pending ≡ o → Turned t w (head_step t w o)
-  next_turns t w none c d = nothing_next c d
-  next_turns t w (some n) c d = head_turns t w n (ready t w.committed n w.pending) (young t (find (λ e. is_head t n e) w.pending)) c d refl refl
+  next_turns : (t : Turn) (w : Work X) (o : Option ℕ) → lowest_ended t.guid w.held ≡ None → next t w.pending ≡ o → Turned t w (head_step t w o)
+  next_turns t w None c d = nothing_next c d
+  next_turns t w (Some n) c d = head_turns t w n (ready t w.committed n w.pending) (young t (find (λ e. is_head t n e) w.pending)) c d refl refl
 
   end_turns : (t : Turn) (w : Work X) (o : Option ℤ) → lowest_ended t.guid w.held ≡ o → Turned t w (end_step t w o)
-  end_turns t w (some z) c = set_turns t w z (waits t z w.held) c refl
-  end_turns t w none c = next_turns t w (next t w.pending) c refl
+  end_turns t w (Some z) c = set_turns t w z (waits t z w.held) c refl
+  end_turns t w None c = next_turns t w (next t w.pending) c refl
 
   pub turned : (t : Turn) (w : Work X) → Turned t w (round t w)
   unfolding round
@@ -58,29 +58,29 @@ module _ {X : Type 0} where
 
   -- ---- laws for code
 
-  pub goes_on : (t : Turn) (w v : Work X) (k : ℕ) → round t w ≡ some v → rounds (suc k) t w ≡ rounds k t v
+  pub goes_on : (t : Turn) (w v : Work X) (k : ℕ) → round t w ≡ Some v → rounds (suc k) t w ≡ rounds k t v
   unfolding rounds
   goes_on t w v k e = ap (λ o. or_stop (λ u. rounds k t u) w o) e
 
-  pub stopped : (t : Turn) (w : Work X) (k : ℕ) → round t w ≡ none → rounds k t w ≡ w
+  pub stopped : (t : Turn) (w : Work X) (k : ℕ) → round t w ≡ None → rounds k t w ≡ w
   unfolding rounds
   stopped t w zero e = refl
   stopped t w (suc k) e = ap (λ o. or_stop (λ u. rounds k t u) w o) e
 
   -- why a round stops: an ended set waits, or there is no number, or its first entry waits
   abbrev pub SetWaits : Turn → Work X → Type 0
-  SetWaits t w = (z : ℤ) × (lowest_ended t.guid w.held ≡ some z) × (waits t z w.held ≡ true)
+  SetWaits t w = (z : ℤ) × (lowest_ended t.guid w.held ≡ Some z) × (waits t z w.held ≡ true)
 
   abbrev pub HeadWaits : Turn → Work X → Type 0
-  HeadWaits t w = (n : ℕ) × (next t w.pending ≡ some n) × (ready t w.committed n w.pending ≡ false) × (young t (find (λ e. is_head t n e) w.pending) ≡ true)
+  HeadWaits t w = (n : ℕ) × (next t w.pending ≡ Some n) × (ready t w.committed n w.pending ≡ false) × (young t (find (λ e. is_head t n e) w.pending) ≡ true)
 
   abbrev pub Stopped : Turn → Work X → Type 0
-  Stopped t w = SetWaits t w ⊎ ((lowest_ended t.guid w.held ≡ none) × ((next t w.pending ≡ none) ⊎ HeadWaits t w))
+  Stopped t w = SetWaits t w ⊎ ((lowest_ended t.guid w.held ≡ None) × ((next t w.pending ≡ None) ⊎ HeadWaits t w))
 
-  pub why_stopped : (t : Turn) (w : Work X) → round t w ≡ none → Stopped t w
+  pub why_stopped : (t : Turn) (w : Work X) → round t w ≡ None → Stopped t w
   why_stopped t w e = go (round t w) (turned t w) e
     where
-      go : (o : Option (Work X)) → Turned t w o → o ≡ none → Stopped t w
+      go : (o : Option (Work X)) → Turned t w o → o ≡ None → Stopped t w
       go o (finishes z c d) e = none_not_some o (finish t z w) e refl
       go o (set_waits z c d) e = inl (z, c, d)
       go o (nothing_next c d) e = inr (c, inl d)
@@ -94,21 +94,21 @@ module _ {X : Type 0} (P : Work X → Type 0) where
   pub stale_keeps : (e : Entry X) → ((z : ℤ) (w : Work X) → P w → P (discard e.group z w)) → (k : ℕ) (w : Work X) → P w → P (discard_stale k e w)
   unfolding discard_stale
   stale_keeps e f zero w h = h
-  stale_keeps e f (suc k) w h = (elim (lowest_stale e w.held) as (λ o. P (discard_or (λ v. discard_stale k e v) e.group w o)) [ none ↦ h | some z ↦ stale_keeps e f k (discard e.group z w) (f z w h) ])
+  stale_keeps e f (suc k) w h = (elim (lowest_stale e w.held) as (λ o. P (discard_or (λ v. discard_stale k e v) e.group w o)) [ None ↦ h | Some z ↦ stale_keeps e f k (discard e.group z w) (f z w h) ])
 
-  pub rounds_keep : (t : Turn) → ((w v : Work X) → round t w ≡ some v → P w → P v) → (k : ℕ) (w : Work X) → P w → P (rounds k t w)
+  pub rounds_keep : (t : Turn) → ((w v : Work X) → round t w ≡ Some v → P w → P v) → (k : ℕ) (w : Work X) → P w → P (rounds k t w)
   unfolding rounds
   rounds_keep t f zero w h = h
-  rounds_keep t f (suc k) w h = (elim (round t w) as (λ o. round t w ≡ o → P (or_stop (λ v. rounds k t v) w o)) [ none ↦ λ e. h | some v ↦ λ e. rounds_keep t f k v (f w v e h) ]) refl
+  rounds_keep t f (suc k) w h = (elim (round t w) as (λ o. round t w ≡ o → P (or_stop (λ v. rounds k t v) w o)) [ None ↦ λ e. h | Some v ↦ λ e. rounds_keep t f k v (f w v e h) ]) refl
 
   -- a round finishes a set or commits a number
-  pub round_keeps : (t : Turn) (w v : Work X) → round t w ≡ some v
-      → ((z : ℤ) → lowest_ended t.guid w.held ≡ some z → P (finish t z w))
-      → ((n k : ℕ) → lowest_ended t.guid w.held ≡ none → next t w.pending ≡ some n → P (commit t n k w))
+  pub round_keeps : (t : Turn) (w v : Work X) → round t w ≡ Some v
+      → ((z : ℤ) → lowest_ended t.guid w.held ≡ Some z → P (finish t z w))
+      → ((n k : ℕ) → lowest_ended t.guid w.held ≡ None → next t w.pending ≡ Some n → P (commit t n k w))
       → P v
   round_keeps t w v e f g = go (round t w) (turned t w) e
     where
-      go : (o : Option (Work X)) → Turned t w o → o ≡ some v → P v
+      go : (o : Option (Work X)) → Turned t w o → o ≡ Some v → P v
       go o (finishes z c d) e = let i : finish t z w ≡ v = cc in subst P i (f z c)
       go o (set_waits z c d) e = none_not_some o v refl e
       go o (nothing_next c d) e = none_not_some o v refl e
@@ -132,7 +132,7 @@ pub record Keeps {X : Type 0} (t : Turn) (P : List (Entry X) → Work X → Type
   pub at_discard : (l : List (Entry X)) (z : ℤ) (w : Work X) → P l w → P l (discard t.guid z w)
   pub at_hand_out : (z : ℤ) (w : Work X) → P [] w → P [] (hand_out t.guid z w)
   pub at_settle : (e : Entry X) (l : List (Entry X)) (w : Work X) (x : What X) (y : Option ℤ) → e.what ≡ x → of_group t.guid e ≡ true → P (e ∷ l) w → P l (settle e w x y)
-  pub at_taken : (n k : ℕ) (w : Work X) → next t w.pending ≡ some n → P [] w → P (head_of t n w.pending) (taken t n k w)
+  pub at_taken : (n k : ℕ) (w : Work X) → next t w.pending ≡ Some n → P [] w → P (head_of t n w.pending) (taken t n k w)
 
 module _ {X : Type 0} {P : List (Entry X) → Work X → Type 0} where
   module _ {t : Turn} (k : Keeps t P) where

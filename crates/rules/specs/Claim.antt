@@ -1,7 +1,7 @@
 -- The third demand: one claim about a whole list of calls from a fresh history (document 01, The third demand);
 -- and what every state has that a list reaches.
 use Rattle.std.specs.Prelude.{ℕ, zero, suc, ◌+◌, ◌-◌, ◌^◌, min, ◌≤◌, ◌<◌, ◌≡◌, Bool, true, false, ◌&&◌, ◌||◌, not, cond, List, [], ◌∷◌, ◌++◌, map, ℤ, leb, ltb, eqb, length, take}
-use Rattle.std.proofs.Math.Option.{Option, some, none}
+use Rattle.std.specs.Prelude.{Option, Some, None}
 use Rattle.laws.specs.Answer.{Answer, refused, answered}
 use Rattle.laws.specs.Lists.{all, any, count, nth}
 use Rattle.guids.specs.Guid.{before}
@@ -99,22 +99,22 @@ has_name k e = has_name_w k e.what
 -- ---- the bound's conditions
 
 abbrev pub onward : ℕ → Option ℕ → (ℕ → Bool) → Bool
-onward last none go = go last
-onward last (some t) go = leb last t && go t
+onward last None go = go last
+onward last (Some t) go = leb last t && go t
 
 module _ {X : Type 0} where
   -- the time of an answered release
   unfoldable pub release_time : State X → Call X → Option ℕ
-  release_time s (offers o) = none
-  release_time s (heartbeats h) = none
-  release_time s (gaps g) = none
-  release_time s (releases now v l) = cond (is_answered (release s v now (length l)).0) (some now) none
+  release_time s (offers o) = None
+  release_time s (heartbeats h) = None
+  release_time s (gaps g) = None
+  release_time s (releases now v l) = cond (is_answered (release s v now (length l)).0) (Some now) None
 
   -- the time of a stored offer or answered release
   unfoldable pub clock_of : State X → Call X → Option ℕ
-  clock_of s (offers o) = cond (stores (offer s o).0) (some o.time) none
-  clock_of s (heartbeats h) = none
-  clock_of s (gaps g) = none
+  clock_of s (offers o) = cond (stores (offer s o).0) (Some o.time) None
+  clock_of s (heartbeats h) = None
+  clock_of s (gaps g) = None
   clock_of s (releases now v l) = release_time s (releases now v l)
 
   -- the entry that a call stores, and all that a list stores
@@ -135,8 +135,8 @@ module _ {X : Type 0} where
 
   -- the work stands at an ended set that waits and has no member
   abbrev pub empty_at : Turn → Work X → Option ℤ → Bool
-  empty_at t w none = false
-  empty_at t w (some z) = waits t z w.held && not (any (λ h. is_member t.guid z h) w.held)
+  empty_at t w None = false
+  empty_at t w (Some z) = waits t z w.held && not (any (λ h. is_member t.guid z h) w.held)
 
   unfoldable pub stops_empty : (Group → Turn) → List Group → Work X → Bool
   stops_empty t [] w = false
@@ -159,8 +159,8 @@ module _ {X : Type 0} where
 
 -- a timeout or more after the last one counted, if any (demand 3)
 abbrev pub after : Option ℕ → ℕ → ℕ → Bool
-after none timeout t = true
-after (some last) timeout t = leb (last + timeout) t
+after None timeout t = true
+after (Some last) timeout t = leb (last + timeout) t
 
 unfoldable pub is_pending : ℕ → State (ℕ × ℕ) → Bool
 is_pending k s = any (λ e. has_name k e) s.pending
@@ -172,11 +172,11 @@ pub data Counted (k : ℕ) : Option ℕ → State (ℕ × ℕ) → List (Call (�
   passed : {last : Option ℕ} {s : State (ℕ × ℕ)} {c : Call (ℕ × ℕ)} {cs : List (Call (ℕ × ℕ))} {m : ℕ}
       → Counted k last (step s c).1 cs m → Counted k last s (c ∷ cs) m
   counts : {last : Option ℕ} {s : State (ℕ × ℕ)} {c : Call (ℕ × ℕ)} {cs : List (Call (ℕ × ℕ))} {m t : ℕ}
-      → release_time s c ≡ some t
+      → release_time s c ≡ Some t
       → after last s.timeout t ≡ true
       → is_pending k s ≡ true
       → is_pending k (step s c).1 ≡ true
-      → Counted k (some t) (step s c).1 cs m
+      → Counted k (Some t) (step s c).1 cs m
       → Counted k last s (c ∷ cs) (suc m)
 
 -- each group's GUID comes before those of the later ones
@@ -229,8 +229,8 @@ pub record AtEnd (t : ℕ) (cs : List (Call ℕ)) : Type 0 where
   -- no accepted sample stays pending through more counted releases than its group had samples and ends stored with numbers up to its own
   pub bound : clock_holds 0 (fresh t) (named 0 cs) ≡ true
       → never_empty (fresh t) (named 0 cs) ≡ true
-      → (k : ℕ) (o : Offer (ℕ × ℕ)) → nth k (named 0 cs) ≡ some (offers o)
-      → (m : ℕ) → Counted k none (fresh t) (named 0 cs) m
+      → (k : ℕ) (o : Offer (ℕ × ℕ)) → nth k (named 0 cs) ≡ Some (offers o)
+      → (m : ℕ) → Counted k None (fresh t) (named 0 cs) m
       → m ≤ count (λ e. of_group o.group e && leb e.number (number o.number)) (stored_by (fresh t) (named 0 cs))
   pub reached : Reached (final t cs).state
 
@@ -239,6 +239,6 @@ pub record Demand3 (t : ℕ) (cs : List (Call ℕ)) : Type 0 where
   -- the first calls alone have the names and the answers that they have in the whole list, and leave the same state
   pub names_first : (n : ℕ) → named 0 (take n cs) ≡ take n (named 0 cs)
   pub answers_first : (n : ℕ) → answers (fresh t) (take n cs) ≡ take n (answers (fresh t) cs)
-  pub state_after : (n : ℕ) → n < length cs → nth n (states_after (fresh t) cs) ≡ some (run (fresh t) (take (suc n) cs))
+  pub state_after : (n : ℕ) → n < length cs → nth n (states_after (fresh t) cs) ≡ Some (run (fresh t) (take (suc n) cs))
   pub each : (n : ℕ) → AtEnd t (take n cs)
   pub end : AtEnd t cs

@@ -1,6 +1,6 @@
 -- When the lowest pending number of a group is ready.
 use Rattle.std.specs.Prelude.{ℕ, zero, suc, ◌-◌, min, Bool, true, ◌&&◌, ◌||◌, not, cond, List, [], ◌∷◌, leb, eqb, drop}
-use Rattle.std.proofs.Math.Option.{Option, some, none}
+use Rattle.std.specs.Prelude.{Option, Some, None}
 use Rattle.laws.specs.Lists.{keep, all, any}
 use Rattle.guids.specs.Guid.{Guid, same_guid}
 use Rattle.rules.specs.Entry.{Entry, of_group}
@@ -26,13 +26,13 @@ pub record Turn : Type 0 where
 
 -- the stand-in for the digest's type (document 01, the digest type): accepted if the group's last four GUID bytes are zero or a row of the group equals it
 unfoldable pub accepted : Guid → List DigestRow → Option ℕ → Bool
-accepted g ds none = true
-accepted g ds (some d) = all (λ b. eqb b 0) (drop 12 g) || any (λ x. same_guid g x.group && eqb x.digest d) ds
+accepted g ds None = true
+accepted g ds (Some d) = all (λ b. eqb b 0) (drop 12 g) || any (λ x. same_guid g x.group && eqb x.digest d) ds
 
 -- a secure digest: accepted if it is 0 (the same)
 unfoldable pub secure_accepted : Option ℕ → Bool
-secure_accepted none = true
-secure_accepted (some d) = eqb d 0
+secure_accepted None = true
+secure_accepted (Some d) = eqb d 0
 
 -- every digest present at a known writer of the group is accepted (document 01, Ruled out; DDSI-RTPS 2.5 §8.7.5)
 unfoldable pub digests_accepted : Turn → Bool
@@ -62,8 +62,8 @@ ruled_out t committed next =
     && all_from (suc committed) (next - suc committed) (λ n. all (λ p. pair_past t p.writer p.reader n) t.counted)
 
 abbrev pub least : ℕ → Option ℕ → Option ℕ
-least n none = some n
-least n (some m) = some (min n m)
+least n None = Some n
+least n (Some m) = Some (min n m)
 
 module _ {X : Type 0} where
   -- the group's entries of a number, in offer order (document 01, release, step 3)
@@ -74,7 +74,7 @@ module _ {X : Type 0} where
   head_of t n l = keep (λ e. is_head t n e) l
 
   unfoldable pub lowest_number : List (Entry X) → Option ℕ
-  lowest_number [] = none
+  lowest_number [] = None
   lowest_number (e ∷ l) = least e.number (lowest_number l)
 
   -- the lowest pending number of the group (document 01, release, step 2)

@@ -1,6 +1,6 @@
 -- An entry of the history: what an offer brought, over any type X of what a sample carries. No rule looks into X.
 use Rattle.std.specs.Prelude.{ℕ, Bool, true, false, ◌&&◌, not, ℤ, eqb}
-use Rattle.std.proofs.Math.Option.{Option, some, none}
+use Rattle.std.specs.Prelude.{Option, Some, None}
 use Rattle.laws.specs.Whole.{eq_z}
 use Rattle.guids.specs.Guid.{Guid, same_guid}
 use Rattle.laws.specs.Lists.{is_some}
@@ -27,13 +27,13 @@ is_sample_w (set_end f o) = false
 
 -- a set number is present, and is z
 abbrev pub is_set : ℤ → Option ℤ → Bool
-is_set z none = false
-is_set z (some y) = eq_z z y
+is_set z None = false
+is_set z (Some y) = eq_z z y
 
 -- two set numbers are present and the same
 abbrev pub same_set : Option ℤ → Option ℤ → Bool
-same_set none t = false
-same_set (some z) t = is_set z t
+same_set None t = false
+same_set (Some z) t = is_set z t
 
 module _ {X : Type 0} where
   unfoldable pub is_sample : Entry X → Bool

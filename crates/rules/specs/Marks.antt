@@ -1,6 +1,6 @@
 -- What offers, heartbeats and gaps tell of a writer, and which numbers are past for a pair.
 use Rattle.std.specs.Prelude.{ℕ, max, Bool, false, ◌&&◌, ◌||◌, not, cond, List, [], ◌∷◌, ◌++◌, ℤ, pos, negsuc, ltb, leb, get_or, set}
-use Rattle.std.proofs.Math.Option.{Option, some, none}
+use Rattle.std.specs.Prelude.{Option, Some, None}
 use Rattle.laws.specs.Lists.{change}
 use Rattle.guids.specs.Guid.{Guid, before}
 use Rattle.rules.specs.State.{Group, Writer, is_writer, knows_group, knows_writer, new_group, new_writer}
@@ -20,8 +20,8 @@ past w r n = past_marks (get_or w.seen r 0) (get_or w.gaps r 0) w.first w.last w
 
 -- an unknown writer is past nothing (the same)
 unfoldable pub past_of : Option Writer → ℕ → ℕ → Bool
-past_of none r n = false
-past_of (some w) r n = past w r n
+past_of None r n = false
+past_of (Some w) r n = past w r n
 
 -- where a group becomes known, it stands in the order of the GUIDs, in which a release takes the groups (document 01, Release takes)
 unfoldable pub insert_group : Group → List Group → List Group
@@ -49,7 +49,7 @@ saw r n d w = record {
   first = w.first;
   last = w.last;
   current = w.current;
-  digest = some d;
+  digest = Some d;
   secure = w.secure;
 }
 
@@ -69,8 +69,8 @@ gapped r n w = record {
 
 -- the new digest where there is one
 unfoldable pub or_keep : Option ℕ → Option ℕ → Option ℕ
-or_keep none d = d
-or_keep (some n) d = some n
+or_keep None d = d
+or_keep (Some n) d = Some n
 
 -- a heartbeat replaces range, current number and secure digest, and the writer digest only if it has one (document 01, A heartbeat raises)
 unfoldable pub announced : ℕ → ℕ → ℕ → Option ℕ → Option ℕ → Writer → Writer

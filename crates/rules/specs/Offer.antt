@@ -1,7 +1,7 @@
 -- Offer, heartbeat and gap.
 use Prim.{Unit, tt}
 use Rattle.std.specs.Prelude.{ℕ, Bool, true, false, ◌&&◌, not, cond, List, [], ◌∷◌, ◌++◌, ℤ, ltb, leb, length}
-use Rattle.std.proofs.Math.Option.{Option, some, none}
+use Rattle.std.specs.Prelude.{Option, Some, None}
 use Rattle.laws.specs.Answer.{Answer, refused, answered}
 use Rattle.laws.specs.Lists.{any, keep, find, change}
 use Rattle.guids.specs.Guid.{Guid}
@@ -25,8 +25,8 @@ pub data Fate : Type 0 where
 
 -- of the tests in their order, the number of the first that holds (document 01, Operations)
 unfoldable pub refusal : List (ℕ × Bool) → Option ℕ
-refusal [] = none
-refusal (t ∷ l) = cond t.1 (some t.0) (refusal l)
+refusal [] = None
+refusal (t ∷ l) = cond t.1 (Some t.0) (refusal l)
 
 abbrev pub fate : Bool → Bool → Fate
 fate true j = is_stored
@@ -57,7 +57,7 @@ module _ {X : Type 0} where
     set = o.set;
     what = o.what;
     time = o.time;
-    ended = none;
+    ended = None;
   }
 
   -- h is of e's set
@@ -86,8 +86,8 @@ module _ {X : Type 0} where
   keep_end m e l = keep (λ h. not (replaced e h)) l ++ (marked m e ∷ [])
 
   abbrev pub mark_of : Option (Entry X) → Option ℕ
-  mark_of none = none
-  mark_of (some h) = h.ended
+  mark_of None = None
+  mark_of (Some h) = h.ended
 
   -- a joining end replaces its pair's, and marks its set as much as that one did (document 01, Number at or below committed)
   unfoldable pub join : Entry X → List (Entry X) → List (Entry X)
@@ -125,8 +125,8 @@ module _ {X : Type 0} where
 
   -- a refused call alters nothing (document 01, Operations); one that is not is heard, even when late (Rules of the history)
   abbrev pub offered : Option ℕ → State X → Offer X → Answer Fate × State X
-  offered (some n) s o = (refused n, s)
-  offered none s o = (answered (fate_of s o), place (fate_of s o) (entry_of o) (heard_offer o s))
+  offered (Some n) s o = (refused n, s)
+  offered None s o = (answered (fate_of s o), place (fate_of s o) (entry_of o) (heard_offer o s))
 
   unfoldable pub offer : State X → Offer X → Answer Fate × State X
   offer s o = offered (offer_refusal s o) s o
@@ -148,8 +148,8 @@ pub record Gap : Type 0 where
 
 module _ {X : Type 0} where
   abbrev pub done : Option ℕ → State X → State X → Answer (Unit {0}) × State X
-  done (some n) s t = (refused n, s)
-  done none s t = (answered tt, t)
+  done (Some n) s t = (refused n, s)
+  done None s t = (answered tt, t)
 
   -- document 01, Heartbeat
   unfoldable pub heartbeat : State X → Heartbeat → Answer (Unit {0}) × State X

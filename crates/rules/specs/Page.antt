@@ -1,6 +1,6 @@
 -- The page of all groups and readers (document 02, U5): one walk over the stored entries fills 64 rows and counts its steps.
 use Rattle.std.specs.Prelude.{ℕ, zero, suc, ◌+◌, ◌*◌, min, Bool, true, false, ◌&&◌, cond, List, [], ◌∷◌, ◌++◌, map, ltb, eqb, replicate}
-use Rattle.std.proofs.Math.Option.{Option, some, none}
+use Rattle.std.specs.Prelude.{Option, Some, None}
 use Rattle.laws.specs.Answer.{Answer, refused, answered}
 use Rattle.laws.specs.Lists.{keep, count, index_of}
 use Rattle.guids.specs.Guid.{Guid}
@@ -19,17 +19,17 @@ pub record Page : Type 0 where
   pub read : ℕ
 
 unfoldable pub empty_row : Row
-empty_row = record { pending = 0; held = 0; oldest = none }
+empty_row = record { pending = 0; held = 0; oldest = None }
 
 -- eight rows for each of k places for groups: the known groups', and absent ones behind
 unfoldable pub start_rows : ℕ → List Group → List (Option Row)
 start_rows zero gs = []
-start_rows (suc k) [] = replicate 8 none ++ start_rows k []
-start_rows (suc k) (g ∷ gs) = replicate 8 (some empty_row) ++ start_rows k gs
+start_rows (suc k) [] = replicate 8 None ++ start_rows k []
+start_rows (suc k) (g ∷ gs) = replicate 8 (Some empty_row) ++ start_rows k gs
 
 abbrev pub older : ℕ → Option ℕ → Option ℕ
-older t none = some t
-older t (some s) = some (min s t)
+older t None = Some t
+older t (Some s) = Some (min s t)
 
 -- one sample more, offered at that time: pending or held
 abbrev pub counted : Bool → ℕ → Row → Row
@@ -37,8 +37,8 @@ counted true t r = record { pending = suc r.pending; held = r.held; oldest = old
 counted false t r = record { pending = r.pending; held = suc r.held; oldest = older t r.oldest }
 
 abbrev pub in_row : (Row → Row) → Option Row → Option Row
-in_row f none = none
-in_row f (some r) = some (f r)
+in_row f None = None
+in_row f (Some r) = Some (f r)
 
 -- the row at a place, changed
 unfoldable pub at_row : ℕ → (Row → Row) → List (Option Row) → List (Option Row)
@@ -76,7 +76,7 @@ module _ {X : Type 0} where
 
 -- the oldest of some times
 unfoldable pub oldest_of : List ℕ → Option ℕ
-oldest_of [] = none
+oldest_of [] = None
 oldest_of (t ∷ l) = older t (oldest_of l)
 
 module _ {X : Type 0} where

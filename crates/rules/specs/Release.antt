@@ -1,6 +1,6 @@
 -- Release.
 use Rattle.std.specs.Prelude.{ℕ, zero, suc, ◌+◌, ◌-◌, ◌*◌, Bool, true, false, ◌&&◌, ◌||◌, not, List, [], ◌∷◌, ◌++◌, ℤ, ltb, eqb, length}
-use Rattle.std.proofs.Math.Option.{Option, some, none}
+use Rattle.std.specs.Prelude.{Option, Some, None}
 use Rattle.laws.specs.Answer.{Answer, refused, answered}
 use Rattle.laws.specs.Lists.{keep, any, count, find}
 use Rattle.guids.specs.Guid.{Guid, same_guid}
@@ -29,8 +29,8 @@ discards k c = record { skipped = c.skipped; incomplete = plus c.incomplete 1; d
 
 -- the time waited since an entry's offer: 0 if the clock went back, 0 with no entry (document 01, release, step 1)
 abbrev pub waited : {X : Type 0} → ℕ → Option (Entry X) → ℕ
-waited now none = 0
-waited now (some e) = now - e.time
+waited now None = 0
+waited now (Some e) = now - e.time
 
 module _ {X : Type 0} where
   -- it waited less than the timeout
@@ -68,8 +68,8 @@ module _ {X : Type 0} where
   finish t z w = finish_if (whole t.guid z t.counted w.held) t.guid z w
 
   abbrev pub discard_or : (Work X → Work X) → Guid → Work X → Option ℤ → Work X
-  discard_or go g w none = w
-  discard_or go g w (some z) = go (discard g z w)
+  discard_or go g w None = w
+  discard_or go g w (Some z) = go (discard g z w)
 
   -- every set not ended and not e's is discarded, the lowest set number first (document 01, release, step 3); k sets at most
   unfoldable pub discard_stale : ℕ → Entry X → Work X → Work X
@@ -84,16 +84,16 @@ module _ {X : Type 0} where
 
   -- the offer time of the set's first committed end: e's own, if no earlier one marks the set
   abbrev pub mark_or : ℕ → Option (Entry X) → Option ℕ
-  mark_or t none = some t
-  mark_or t (some m) = m.ended
+  mark_or t None = Some t
+  mark_or t (Some m) = m.ended
 
   -- a member joins its set; an end is kept and marks its set ended; a plain sample is handed out; an end without a set is dropped
   -- (document 01, release, step 3; DDSI-RTPS 2.5 §8.7.6)
   abbrev pub settle : Entry X → Work X → What X → Option ℤ → Work X
-  settle e w (sample x) none = with_out (w.out ++ (e ∷ [])) w
-  settle e w (sample x) (some z) = with_held (w.held ++ (e ∷ [])) w
-  settle e w (set_end f o) none = w
-  settle e w (set_end f o) (some z) = with_held (keep_end (mark_or e.time (find (λ m. shares e m && marks m) w.held)) e w.held) w
+  settle e w (sample x) None = with_out (w.out ++ (e ∷ [])) w
+  settle e w (sample x) (Some z) = with_held (w.held ++ (e ∷ [])) w
+  settle e w (set_end f o) None = w
+  settle e w (set_end f o) (Some z) = with_held (keep_end (mark_or e.time (find (λ m. shares e m && marks m) w.held)) e w.held) w
 
   unfoldable pub commit_one : Entry X → Work X → Work X
   commit_one e w =
@@ -119,34 +119,34 @@ module _ {X : Type 0} where
 
   -- step 2 (document 01, release; DDSI-RTPS 2.5 §8.7.5): the lowest pending number is committed when it is ready or its first entry waited the timeout; none means stop
   abbrev pub commit_if : Bool → Bool → Turn → ℕ → Work X → Option (Work X)
-  commit_if true y t n w = some (commit t n 0 w)
-  commit_if false true t n w = none
-  commit_if false false t n w = some (commit t n (n - suc w.committed) w)
+  commit_if true y t n w = Some (commit t n 0 w)
+  commit_if false true t n w = None
+  commit_if false false t n w = Some (commit t n (n - suc w.committed) w)
 
   abbrev pub head_step : Turn → Work X → Option ℕ → Option (Work X)
-  head_step t w none = none
-  head_step t w (some n) =
+  head_step t w None = None
+  head_step t w (Some n) =
       commit_if (ready t w.committed n w.pending) (young t (find (λ e. is_head t n e) w.pending)) t n w
 
   -- step 1 (document 01, release; DDSI-RTPS 2.5 §8.7.6): the ended set with the lowest set number is finished, unless an end is missing and its first member waited less
   abbrev pub finish_or : Bool → Turn → ℤ → Work X → Option (Work X)
-  finish_or true t z w = none
-  finish_or false t z w = some (finish t z w)
+  finish_or true t z w = None
+  finish_or false t z w = Some (finish t z w)
 
   unfoldable pub waits : Turn → ℤ → List (Entry X) → Bool
   waits t z l = end_missing t.guid z t.counted l && young t (find (λ h. is_member t.guid z h) l)
 
   abbrev pub end_step : Turn → Work X → Option ℤ → Option (Work X)
-  end_step t w (some z) = finish_or (waits t z w.held) t z w
-  end_step t w none = head_step t w (next t w.pending)
+  end_step t w (Some z) = finish_or (waits t z w.held) t z w
+  end_step t w None = head_step t w (next t w.pending)
 
   -- one repetition; none means that the release stops in this group
   unfoldable pub round : Turn → Work X → Option (Work X)
   round t w = end_step t w (lowest_ended t.guid w.held)
 
   abbrev pub or_stop : (Work X → Work X) → Work X → Option (Work X) → Work X
-  or_stop go w none = w
-  or_stop go w (some v) = go v
+  or_stop go w None = w
+  or_stop go w (Some v) = go v
 
   unfoldable pub rounds : ℕ → Turn → Work X → Work X
   rounds zero t w = w
@@ -225,8 +225,8 @@ module _ {X : Type 0} where
   release_refusal s v room = refusal ((9, malformed v) ∷ (5, ltb room (samples s)) ∷ [])
 
   abbrev pub released_if : Option ℕ → State X → View → ℕ → Answer (Outcome X) × State X
-  released_if (some n) s v now = (refused n, s)
-  released_if none s v now =
+  released_if (Some n) s v now = (refused n, s)
+  released_if None s v now =
       let r : List Group × Work X = released s v now in
       (answered (record { out = r.1.out; lost = r.1.lost }), back_to s r)
 

@@ -1,6 +1,6 @@
 -- Open sets of a group: whether one is ended, whether it is whole.
 use Rattle.std.specs.Prelude.{ℕ, Bool, true, false, ◌&&◌, not, cond, List, [], ◌∷◌, ℤ, pos, ◌-ℤ◌, eqb}
-use Rattle.std.proofs.Math.Option.{Option, some, none}
+use Rattle.std.specs.Prelude.{Option, Some, None}
 use Rattle.std.specs.Int.Signed.{lt_z}
 use Rattle.laws.specs.Whole.{eq_z}
 use Rattle.laws.specs.Lists.{keep, all, any, count, find}
@@ -15,14 +15,14 @@ pub record Pair : Type 0 where
   pub reader : ℕ
 
 abbrev pub lesser : Option ℤ → Option ℤ → Option ℤ
-lesser none b = b
-lesser (some a) none = some a
-lesser (some a) (some b) = some (cond (lt_z b a) b a)
+lesser None b = b
+lesser (Some a) None = Some a
+lesser (Some a) (Some b) = Some (cond (lt_z b a) b a)
 
 module _ {X : Type 0} where
   -- the lowest set number among entries
   unfoldable pub lowest_set : List (Entry X) → Option ℤ
-  lowest_set [] = none
+  lowest_set [] = None
   lowest_set (e ∷ l) = lesser e.set (lowest_set l)
 
   -- the ended set with the lowest set number (document 01, release, step 1)
@@ -43,13 +43,13 @@ module _ {X : Type 0} where
   -- (document 01, Finish; DDSI-RTPS 2.5 §8.7.6)
   abbrev pub agrees_w : ℕ → What X → Bool
   agrees_w m (sample x) = true
-  agrees_w m (set_end none o) = eqb m 0
-  agrees_w m (set_end (some f) none) = true
-  agrees_w m (set_end (some f) (some o)) = eq_z (pos m) (o -ℤ f)
+  agrees_w m (set_end None o) = eqb m 0
+  agrees_w m (set_end (Some f) None) = true
+  agrees_w m (set_end (Some f) (Some o)) = eq_z (pos m) (o -ℤ f)
 
   abbrev pub agrees_e : ℕ → Option (Entry X) → Bool
-  agrees_e m none = false
-  agrees_e m (some e) = agrees_w m e.what
+  agrees_e m None = false
+  agrees_e m (Some e) = agrees_w m e.what
 
   -- the pair's end is there and agrees with the pair's members
   unfoldable pub agrees : Guid → ℤ → List (Entry X) → Pair → Bool

@@ -1,6 +1,6 @@
 -- The history's state.
 use Rattle.std.specs.Prelude.{ℕ, ◌+◌, ◌-◌, ◌^◌, min, Bool, ◌&&◌, List, [], length, replicate}
-use Rattle.std.proofs.Math.Option.{Option, some, none}
+use Rattle.std.specs.Prelude.{Option, Some, None}
 use Rattle.laws.specs.Lists.{any, find}
 use Rattle.guids.specs.Guid.{Guid, same_guid}
 use Rattle.rules.specs.Entry.{Entry}
@@ -70,8 +70,8 @@ writer_of g w ws = find (λ x. is_writer g w x) ws
 
 -- committed of a group; 0 of an unknown one (document 01, Rules of the history)
 unfoldable pub committed_in : Option Group → ℕ
-committed_in none = 0
-committed_in (some x) = x.committed
+committed_in None = 0
+committed_in (Some x) = x.committed
 
 unfoldable pub committed_of : Guid → List Group → ℕ
 committed_of g gs = committed_in (find (λ x. is_group g x) gs)
@@ -93,6 +93,6 @@ new_writer g w = record {
   first = 0;
   last = 0;
   current = 0;
-  digest = none;
-  secure = none;
+  digest = None;
+  secure = None;
 }

@@ -18,21 +18,16 @@
 // Before the first line there is a new scope, and an access scope at 0 0.
 #![tactic(auto)]
 
-use coherent_set::{
-    AccessEnded, CoherentBegun, CoherentEnded, CoherentScope, CoherentSetMarker, CurrentMarker,
-    Decoded, GroupAccessScope,
-};
-use decimal::{put_bytes, put_signed, put_unsigned};
-use fields::{field_count, long_at, number_at, only_byte, word_at};
-use hex_digits::{put_hex, read_hex};
-use line_input::next_line;
+use arrayvec::ArrayVec;
+use coherent_set::{CoherentScope, CoherentSetMarker, GroupAccessScope};
+use decimal::text::{put_bytes, put_signed, put_unsigned};
+use fields::line::Fields;
+use hex_digits::text::{put_hex, read_hex};
+use line_input::Lines;
+use line_output::Output;
+use line_output::answers::{Text, answer_lines};
+use refusals::Refusal;
 use std::io;
-
-// Room for every answer.
-type Out = [u8; 32];
-
-// Room for every good line, but for a `D` of more than 127 bytes, which is refused as one of 127 is.
-type Line = [u8; 256];
 
 #[derive(Drop)]
 struct Scopes {
@@ -40,229 +35,133 @@ struct Scopes {
     access: GroupAccessScope,
 }
 
-// The scopes after a call, and how many bytes of the answer there are.
-#[derive(Drop)]
-struct Answer {
-    scopes: Scopes,
-    length: usize,
+// ---- answers
+
+fn put_refusal(text: &mut Text, refusal: Refusal) {
+    put_bytes(text, b"refused ");
+    put_unsigned(text, refusal.number());
 }
 
-fn say(scopes: Scopes, text: &[u8], out: &mut Out) -> Answer {
-    let length = put_bytes(out, 0, text);
-    Answer { scopes, length }
-}
-
-fn say_ok(scopes: Scopes, out: &mut Out) -> Answer {
-    say(scopes, b"ok\n", out)
-}
-
-fn say_bad(scopes: Scopes, out: &mut Out) -> Answer {
-    say(scopes, b"bad\n", out)
-}
-
-fn say_flag(scopes: Scopes, flag: bool, out: &mut Out) -> Answer {
-    if flag {
-        return say(scopes, b"1\n", out);
-    }
-    say(scopes, b"0\n", out)
-}
-
-// A precondition is not met.
-fn say_unmet(scopes: Scopes, out: &mut Out) -> Answer {
-    say(scopes, b"refused 6\n", out)
-}
-
-// Ends an answer at `at`.
-fn end_answer(scopes: Scopes, out: &mut Out, at: usize) -> Answer {
-    let length = put_bytes(out, at, b"\n");
-    Answer { scopes, length }
-}
-
-fn say_unsigned(scopes: Scopes, n: u64, out: &mut Out) -> Answer {
-    let at = put_unsigned(out, 0, n);
-    end_answer(scopes, out, at)
-}
-
-fn say_signed(scopes: Scopes, x: i64, out: &mut Out) -> Answer {
-    let at = put_signed(out, 0, x);
-    end_answer(scopes, out, at)
-}
-
-fn encode(scopes: Scopes, number: i64, out: &mut Out) -> Answer {
-    let bytes = CoherentSetMarker::new(number).to_wire_bytes();
-    let at = put_hex(out, 0, &bytes);
-    end_answer(scopes, out, at)
-}
-
-fn decode(scopes: Scopes, field: &[u8], out: &mut Out) -> Answer {
-    if field.len() == 1 && field[0] == b'-' {
-        return decode_bytes(scopes, b"", out);
-    }
-    let n = field.len() / 2;
-    if n == 0 || 128 < n {
-        return say_bad(scopes, out); // no byte, or more than a line has room for
-    }
-    let mut bytes = [0u8; 128];
-    decode_hex(scopes, field, &mut bytes[0..n], out)
-}
-
-// Decodes what field spells, with room for it in bytes.
-fn decode_hex(scopes: Scopes, field: &[u8], bytes: &mut [u8], out: &mut Out) -> Answer {
-    if read_hex(field, bytes) {
-        return decode_bytes(scopes, bytes, out);
-    }
-    say_bad(scopes, out)
-}
-
-fn decode_bytes(scopes: Scopes, bytes: &[u8], out: &mut Out) -> Answer {
-    let decoded = CoherentSetMarker::from_wire_bytes(bytes);
-    match decoded {
-        Decoded::Marker(marker) => say_signed(scopes, marker.set_first_sn, out),
-        Decoded::NotEightBytes => say(scopes, b"refused 11\n", out),
+fn put_done(text: &mut Text, done: Result<(), Refusal>) {
+    match done {
+        Ok(()) => put_bytes(text, b"ok"),
+        Err(refusal) => put_refusal(text, refusal),
     }
 }
 
-fn begin(scopes: Scopes, number: i64, out: &mut Out) -> Answer {
-    let access = scopes.access;
-    let begun = scopes.scope.begin(number);
-    match begun {
-        CoherentBegun::Begun(scope) => say_ok(Scopes { scope, access }, out),
-        CoherentBegun::PreconditionNotMet(scope) => say_unmet(Scopes { scope, access }, out),
+fn put_marker(text: &mut Text, marker: Result<CoherentSetMarker, Refusal>) {
+    match marker {
+        Ok(marker) => put_signed(text, marker.set_first_sn),
+        Err(refusal) => put_refusal(text, refusal),
     }
 }
 
-fn end(scopes: Scopes, out: &mut Out) -> Answer {
-    let access = scopes.access;
-    let ended = scopes.scope.end();
-    match ended {
-        CoherentEnded::Ended(marker, scope) => say_signed(
-            Scopes { scope, access },
-            marker.set_first_sn,
-            out,
-        ),
-        CoherentEnded::PreconditionNotMet(scope) => say_unmet(Scopes { scope, access }, out),
+fn put_current(text: &mut Text, marker: Option<CoherentSetMarker>) {
+    match marker {
+        Some(marker) => put_signed(text, marker.set_first_sn),
+        None => put_bytes(text, b"-"),
     }
 }
 
-fn current_marker(scopes: Scopes, out: &mut Out) -> Answer {
-    let current = scopes.scope.current_marker();
-    match current {
-        CurrentMarker::Marker(marker) => say_signed(scopes, marker.set_first_sn, out),
-        CurrentMarker::Nothing => say(scopes, b"-\n", out),
+// ---- calls: none where the line is bad
+
+fn encode(mut fields: Fields, text: &mut Text) -> Option<()> {
+    let number = fields.number()?;
+    fields.end()?;
+    put_hex(text, &CoherentSetMarker::new(number).to_wire_bytes());
+    Some(())
+}
+
+fn decode(mut fields: Fields, text: &mut Text) -> Option<()> {
+    let bytes = take_bytes(&mut fields)?;
+    fields.end()?;
+    put_marker(text, CoherentSetMarker::from_wire_bytes(bytes.as_slice()));
+    Some(())
+}
+
+fn take_bytes(fields: &mut Fields) -> Option<ArrayVec<u8, 128>> {
+    match fields.text()? {
+        b"" => None,
+        b"-" => Some(ArrayVec::new()),
+        digits => read_hex(digits),
     }
 }
 
-fn new_access(scopes: Scopes, line: &[u8], out: &mut Out) -> Answer {
-    let count = word_at(line, 1);
-    let generation = long_at(line, 2);
-    if count.ok & generation.ok & (field_count(line) == 3) {
-        let scope = scopes.scope;
-        let access = GroupAccessScope {
-            open_count: count.value,
-            snapshot_generation: generation.value,
-        };
-        return say_ok(Scopes { scope, access }, out);
-    }
-    say_bad(scopes, out)
+fn begin(scope: &mut CoherentScope, mut fields: Fields, text: &mut Text) -> Option<()> {
+    let number = fields.number()?;
+    fields.end()?;
+    put_done(text, scope.begin(number));
+    Some(())
 }
 
-fn access_end(scopes: Scopes, out: &mut Out) -> Answer {
-    let scope = scopes.scope;
-    let before = scopes.access;
-    let access = before.ended();
-    let answer = before.end_answer();
-    match answer {
-        AccessEnded::Ended => say_ok(Scopes { scope, access }, out),
-        AccessEnded::PreconditionNotMet => say_unmet(Scopes { scope, access }, out),
-    }
+fn take_access(mut fields: Fields) -> Option<GroupAccessScope> {
+    let open_count = fields.word()?;
+    let snapshot_generation = fields.unsigned()?;
+    fields.end()?;
+    Some(GroupAccessScope {
+        open_count,
+        snapshot_generation,
+    })
 }
 
 // A call with no fields.
-fn run_bare(scopes: Scopes, call: u8, out: &mut Out) -> Answer {
-    let scope = scopes.scope;
-    let access = scopes.access;
+fn run_bare(scopes: &mut Scopes, call: u8, text: &mut Text) -> Option<()> {
     match call {
         b'N' => {
-            let scope = CoherentScope::new();
-            say_ok(Scopes { scope, access }, out)
+            scopes.scope = CoherentScope::new();
+            put_bytes(text, b"ok");
         }
-        b'E' => end(scopes, out),
-        b'A' => say_flag(scopes, scope.is_active(), out),
-        b'C' => current_marker(scopes, out),
+        b'E' => put_marker(text, scopes.scope.end()),
+        b'A' => put_unsigned(text, u64::from(scopes.scope.is_active())),
+        b'C' => put_current(text, scopes.scope.current_marker()),
         b'P' => {
-            let access = access.begun();
-            say_ok(Scopes { scope, access }, out)
+            scopes.access.begin();
+            put_bytes(text, b"ok");
         }
-        b'Q' => access_end(scopes, out),
-        b'W' => say_flag(scopes, access.is_active(), out),
-        b'S' => say_unsigned(scopes, access.current_snapshot(), out),
-        _ => say_bad(scopes, out),
+        b'Q' => put_done(text, scopes.access.end()),
+        b'W' => put_unsigned(text, u64::from(scopes.access.is_active())),
+        b'S' => put_unsigned(text, scopes.access.current_snapshot()),
+        _ => return None,
     }
+    Some(())
 }
 
-// A call with a number.
-fn run_number(scopes: Scopes, call: u8, line: &[u8], out: &mut Out) -> Answer {
-    let number = number_at(line, 1);
-    if number.ok & (field_count(line) == 2) {
-        if call == b'M' {
-            return encode(scopes, number.value, out);
+// A line, without its newline. Its fields are read before anything is changed or put.
+fn run_line(scopes: &mut Scopes, line: &[u8], text: &mut Text) -> Option<()> {
+    let mut fields = Fields::of_line(line);
+    match fields.letter()? {
+        b'M' => encode(fields, text),
+        b'D' => decode(fields, text),
+        b'B' => begin(&mut scopes.scope, fields, text),
+        b'X' => {
+            scopes.access = take_access(fields)?;
+            put_bytes(text, b"ok");
+            Some(())
         }
-        return begin(scopes, number.value, out);
-    }
-    say_bad(scopes, out)
-}
-
-// A line, without its newline. Its fields are read before anything is changed.
-fn run_line(scopes: Scopes, line: &[u8], out: &mut Out) -> Answer {
-    let call = only_byte(line, 0);
-    if line.len() < 2 {
-        return run_bare(scopes, call, out);
-    }
-    match call {
-        b'M' | b'B' => run_number(scopes, call, line, out),
-        b'D' => decode(scopes, &line[2..], out),
-        b'X' => new_access(scopes, line, out),
-        _ => say_bad(scopes, out),
+        call => {
+            fields.end()?;
+            run_bare(scopes, call, text)
+        }
     }
 }
 
-fn print(rt: &impl Print, out: &Out, length: usize) -> io::Result<()> {
-    let text: &[u8] = out;
-    if length <= text.len() {
-        return rt.write_all(&text[0..length]);
+fn answer_line(scopes: &mut Scopes, line: &[u8], text: &mut Text) {
+    if run_line(scopes, line, text).is_none() {
+        put_bytes(text, b"bad");
     }
-    Ok(())
+    put_bytes(text, b"\n");
 }
 
-// Prints the answer to the first bytes of a line, and answers the scopes after it.
-fn answer_line(rt: &impl Print, scopes: Scopes, line: &Line, length: usize) -> io::Result<Scopes> {
-    let line: &[u8] = line;
-    if line.len() < length {
-        return Ok(scopes); // no line is longer
-    }
-    let mut out = [0u8; 32];
-    let said = run_line(scopes, &line[0..length], &mut out);
-    print(rt, &out, said.length)?;
-    Ok(said.scopes)
-}
-
-// So that the loop is seen to end, it counts more lines than any run has.
+// A line has room for every good line, but for a `D` of more than 127 bytes, which is refused as one of 127 is.
 fn main(rt: HostRuntime) -> io::Result<()> {
     let mut scopes = Scopes {
         scope: CoherentScope::new(),
         access: GroupAccessScope::new(),
     };
-    let mut stdin = rt.stdin();
-    let mut chunk = [0u8; 65536];
-    let mut line = [0u8; 256];
-    let mut input = line_input::begin();
-    for _ in 0..u64::MAX {
-        let next = next_line(&mut stdin, &mut chunk, input, &mut line);
-        if !next.more {
-            break;
-        }
-        scopes = answer_line(&rt, scopes, &line, next.length)?;
-        input = next.input;
-    }
-    Ok(())
+    let mut lines = Lines::new(rt.stdin());
+    let mut output = Output::new(rt.stdout());
+    answer_lines(&mut lines, &mut output, |text, line| {
+        answer_line(&mut scopes, line, text);
+    });
+    output.into_result()
 }

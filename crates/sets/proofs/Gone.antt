@@ -5,7 +5,7 @@ use mathlib.Core.Path.{◌≡◌, refl, sym, ap, ◌∙◌, fun_ext}
 use mathlib.Core.Logic.{◌≢◌}
 use mathlib.Core.Bool.{Bool, true, false, ◌&&◌, not, cond, and_assoc}
 use mathlib.Core.List.{List, [], ◌∷◌, ◌++◌, map, map-append, map-map, append_assoc, append-nil}
-use mathlib.Core.Option.{Option, some, none}
+use Rattle.std.specs.Prelude.{Option, Some, None}
 use native.Mathlib.Omega.{arith}
 use native.Mathlib.Numerals.{add-one}
 use lib.IntN.{ℤ}
@@ -92,7 +92,7 @@ left l n i long h b =
 
 -- ---- what a row's words say of its entry
 
-row_marks_if : (b : Bool) (t : ℕ) → is_some (cond b (some t) none) ≡ b
+row_marks_if : (b : Bool) (t : ℕ) → is_some (cond b (Some t) None) ≡ b
 unfolding is_some
 row_marks_if true t = refl
 row_marks_if false t = refl
@@ -284,8 +284,8 @@ written_all q n m at k l o p e w f =
 -- there is no such place
 pub written_past : (q : Query) (n at : ℕ) (l o : List ℕ) → length o < at → WrittenIn q n at at l o o
 written_past q n at l o h =
-    let none : length o - at ≡ 0 = omega arith in
-    record { list = rw none (sym (take-append-drop at o)); end = omega arith }
+    let None : length o - at ≡ 0 = omega arith in
+    record { list = rw None (sym (take-append-drop at o)); end = omega arith }
 
 -- there is room for all
 pub written_fits : (q : Query) (n at r : ℕ) (l o p : List ℕ) → at + length (keep (λ x. fits q x) (rows_in n l)) ≤ length o → WrittenIn q n at r l o p → Written q n at r l o p
@@ -382,9 +382,9 @@ module _ (q : Query) (k : ℕ) (p : Entry ℕ → Bool) (asks : Asks q k p) wher
       let f : i ≡ index_of (λ x. eqb x.stage k && p x.entry) rs = e ∙ ap (λ t. index_of t rs) asked in
       let long : length rs ≡ n = length_rows n l b in
       let le : i ≤ length rs = rw e (index_le (λ x. fits q x) rs) in
-      (elim (ltb i n) as (λ c. ltb i n ≡ c → cond c (some (row_at i l).entry) none ≡ find p (staged k rs)) [
+      (elim (ltb i n) as (λ c. ltb i n ≡ c → cond c (Some (row_at i l).entry) None ≡ find p (staged k rs)) [
         | true ↦ λ t. let h : i < n = ltb-true i n t in
-            sym (staged_at k p rs blank (rw (← f) (omega arith)) ∙ rw (← f) (ap (λ r. some r.entry) (row_in n i l blank h b)))
+            sym (staged_at k p rs blank (rw (← f) (omega arith)) ∙ rw (← f) (ap (λ r. Some r.entry) (row_in n i l blank h b)))
         | false ↦ λ t. let h : n ≤ i = ltb-false i n t in sym (staged_past k p rs (sym f ∙ omega arith))
       ]) refl
 

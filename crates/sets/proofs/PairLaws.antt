@@ -3,7 +3,7 @@ use Prim.Native.Nat.{ℕ, ◌<◌, ◌≤◌}
 use mathlib.Core.Path.{◌≡◌, refl, sym, ap, ◌∙◌}
 use mathlib.Core.Bool.{Bool, true, false, ◌&&◌, ◌||◌, not, cond, not-not}
 use mathlib.Core.List.{List}
-use mathlib.Core.Option.{some, none}
+use Rattle.std.specs.Prelude.{Some, None}
 use lib.IntN.{ℤ}
 use borrow.Author.Tests.{lt-ltb, le-ltb}
 use Rattle.laws.specs.Lists.{all, any, count, find, index_of, is_some}
@@ -39,7 +39,7 @@ module _ (g : Guid) (z : ℤ) (l : List (Entry ℕ)) where
   unfolding agrees is_some
   agrees_there p =
       let t : Entry ℕ → Bool = λ h. is_end_of g z p.writer p.reader h in
-      (elim (find t l) as (λ o. is_some o ≡ any t l → agrees_e (members_of_pair g z p l) o ≡ true → any t l ≡ true) [ none ↦ λ e k. sym e ∙ k | some a ↦ λ e k. sym e ]) (find_any t l)
+      (elim (find t l) as (λ o. is_some o ≡ any t l → agrees_e (members_of_pair g z p l) o ≡ true → any t l ≡ true) [ None ↦ λ e k. sym e ∙ k | Some a ↦ λ e k. sym e ]) (find_any t l)
 
   pub missing_any : (ps : List Pair) → end_missing g z ps l ≡ not (all (λ p. any (λ h. is_end_of g z p.writer p.reader h) l) ps)
   unfolding end_missing

@@ -2,7 +2,7 @@
 use Prim.Native.Nat.{ℕ, zero, suc, ◌/◌, ◌%◌, ◌^◌}
 use mathlib.Core.Path.{◌≡◌, refl, sym, ap, ◌∙◌}
 use mathlib.Core.List.{List, [], ◌∷◌, map}
-use mathlib.Core.Option.{none}
+use Rattle.std.specs.Prelude.{None}
 use native.Mathlib.Omega.{arith}
 use lib.ListN.{length, take, get_or, set}
 use Rattle.rules.specs.Entry.{Entry, sample}
@@ -17,7 +17,7 @@ use Rattle.sets.proofs.Places.{stay_none, places_same}
 
 -- an entry whose place is p
 abbrev handed : ℕ → Entry ℕ
-handed p = record { group = []; writer = []; reader = p / 2 ^ 32; number = 0; set = none; what = sample (p % 2 ^ 32); time = 0; ended = none }
+handed p = record { group = []; writer = []; reader = p / 2 ^ 32; number = 0; set = None; what = sample (p % 2 ^ 32); time = 0; ended = None }
 
 handed_place : (p : ℕ) → place_of (handed p) ≡ p
 unfolding place_of

@@ -1,6 +1,6 @@
 -- How the store and the lent list stand to the definitions' work while a release runs in one group.
 use Rattle.std.specs.Prelude.{ℕ, ◌+◌, ◌-◌, ◌≤◌, min, ltb, eqb, ◌≡◌, Bool, ◌&&◌, not, cond, List, [], ◌++◌, map, length, take, drop, get_or, set, ℤ}
-use Rattle.std.proofs.Math.Option.{Option, some, none}
+use Rattle.std.specs.Prelude.{Option, Some, None}
 use Rattle.laws.specs.Lists.{count, keep, index_of, is_some}
 use Rattle.rules.specs.Entry.{Entry, is_sample, of_group}
 use Rattle.guids.specs.Guid.{Guid}
@@ -18,7 +18,7 @@ use Rattle.sets.specs.Placed.{Placed, placed}
 
 -- the entry at row i of the first n, if there is one
 unfoldable pub found_at : ℕ → ℕ → List ℕ → Option (Entry ℕ)
-found_at n i l = cond (ltb i n) (some (row_at i l).entry) none
+found_at n i l = cond (ltb i n) (Some (row_at i l).entry) None
 
 -- a row that left the history
 unfoldable pub gone : Row → Row
@@ -124,8 +124,8 @@ turn_at i v now l = turn_of (view_of v) now (get_or l 3 0) (writers_of l) (group
 
 -- the first row of a pending number of the group; the number of rows if there is none
 abbrev pub head_at : Guid → Option ℕ → List Row → ℕ
-head_at g none rs = length rs
-head_at g (some m) rs = index_of (λ x. eqb x.stage 0 && (of_group g x.entry && eqb m x.entry.number)) rs
+head_at g None rs = length rs
+head_at g (Some m) rs = index_of (λ x. eqb x.stage 0 && (of_group g x.entry && eqb m x.entry.number)) rs
 
 -- a round: it stops and nothing changes, or goes to the next spot
 abbrev pub round_to : Turn → Work ℕ → Work ℕ

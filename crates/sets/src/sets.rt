@@ -8,14 +8,14 @@ ghost use Rattle.rules.specs.Release.{waited};
 ghost use Rattle.store.specs.Store.{rows_in, staged};
 ghost use Rattle.group_view.specs.View.{pairs_for, pair_for};
 ghost use Rattle.guids.specs.Keys.{key_as};
-ghost use Rattle.store.specs.Records.{optional_as, what_as};
+ghost use Rattle.store.specs.Records.{what_as};
 
 use crate::leaving::is_young;
 use group_view::view::{Counted, pair_at, pair_count};
 use guids::key::{Key, same};
 use rules::number::is_distance;
 use store::coding::read_entry;
-use store::entry::{Optional, SetEnd, What};
+use store::entry::{SetEnd, What};
 use store::query::Query;
 use store::rows::{any_row, count_rows, find_row};
 use store::words::{Store, lesser};
@@ -51,15 +51,15 @@ fn end_agrees(members: u64, what: What) -> bool
 }
 
 fn numbers_agree(members: u64, end: SetEnd) -> bool
-    ensures { result ≡ agrees_w {X = ℕ} members (set_end (optional_as end.first) (optional_as end.own)) }
+    ensures { result ≡ agrees_w {X = ℕ} members (set_end end.first end.own) }
 {
     let first = end.first;
     let own = end.own;
     match first {
-        Optional::Absent => members == 0,
-        Optional::Present(f) => match own {
-            Optional::Absent => true,
-            Optional::Present(o) => is_distance(members, f, o),
+        None => members == 0,
+        Some(f) => match own {
+            None => true,
+            Some(o) => is_distance(members, f, o),
         },
     }
 }

@@ -37,18 +37,16 @@ save_by false true true x l = refl
 
 -- a refused save changes nothing
 pub save_keeps : (bs : List ℕ) (l : List Setting) → (save bs l).1 ≡ cond (accepted bs) (saved (setting_in (version_in bs) bs) l) l
-unfolding save accepted
+unfolding accepted
 save_keeps bs l = save_by (eqb (length bs) 0) (known (version_in bs)) (good_length (version_in bs) (length bs)) (setting_in (version_in bs) bs) l
 
 read_first : (n age : ℕ) (l : List Setting) → age < n → read_at age (take n l) ≡ read_at age l
-unfolding read_at
 read_first zero age l h = absurd (omega arith)
 read_first (suc n) age [] h = refl
 read_first (suc n) zero (x ∷ l) h = refl
 read_first (suc n) (suc age) (x ∷ l) h = read_first n age l (omega arith)
 
 older : (t : Bool) (age : ℕ) (x : Setting) (l : List Setting) → age + cond t 1 0 < 8 → read_at (age + cond t 1 0) (cond t (saved x l) l) ≡ read_at age l
-unfolding saved read_at
 older true age x l h =
     let e : age + 1 ≡ suc age = omega arith in
     ap (λ n. read_at n (take 8 (x ∷ l))) e ∙ read_first 7 age l (omega arith)

@@ -19,7 +19,6 @@ use Rattle.settings.proofs.Shown.{size_width}
 
 -- the bits above the w low ones don't count
 bits_low : (w q r : ℕ) → bits_of w (q * 2 ^ w + r) ≡ bits_of w r
-unfolding bits_of
 bits_low zero q r = refl
 bits_low (suc w) q r =
     ap (λ n. (n / 2 ^ w) % 2 ∷ bits_of w n) at
@@ -31,7 +30,6 @@ bits_low (suc w) q r =
     at = ap (λ m. q * m + r) (pow-succ' 2 w) ∙ ap (λ m. m + r) (sym (mul_assoc q 2 (2 ^ w)))
 
 bits_append : (a b n : ℕ) → bits_of (a + b) n ≡ bits_of a (n / 2 ^ b) ++ bits_of b n
-unfolding bits_of
 bits_append zero b n = ap (λ m. bits_of m n) (zero-add b)
 bits_append (suc a) b n =
     ap (λ m. bits_of m n) (suc-add a b)
@@ -42,7 +40,6 @@ bits_append (suc a) b n =
     at = ap (λ m. n / m) (pow-add 2 a b ∙ mul_comm (2 ^ a) (2 ^ b)) ∙ sym (div-div-eq-div-mul n (2 ^ b) (2 ^ a))
 
 pub bits_joined : (x : Field → ℕ) (l : Layout) → within x l ≡ true → bits_of (width l) (joined x l) ≡ field_bits x l
-unfolding bits_of field_bits width joined within
 bits_joined x [] h = refl
 bits_joined x (p ∷ l) h =
     let r = and_right (ltb (x p.0) (2 ^ p.1)) (within x l) h in
@@ -52,7 +49,7 @@ bits_joined x (p ∷ l) h =
     ∙ ap (λ t. bits_of p.1 (x p.0) ++ t) (bits_low (width l) (x p.0) n ∙ bits_joined x l r)
 
 bits_bytes : (k n : ℕ) → bits_of (k * 8) n ≡ byte_bits (bytes_of k n)
-unfolding bits_of byte_bits bytes_of
+unfolding bytes_of
 bits_bytes zero n = refl
 bits_bytes (suc k) n =
     let e : suc k * 8 ≡ 8 + k * 8 = omega arith in
@@ -66,7 +63,6 @@ bits_bytes (suc k) n =
     one m = ap (λ i. bits_of 8 i) (sym (div-add-mod' m 256)) ∙ bits_low 8 (m / 256) (m % 256)
 
 pub packed_bits : (v : ℕ) (x : Setting) → fits_at v x ≡ true → byte_bits (packed_at v x) ≡ field_bits (λ f. value_of v x f) (layout v)
-unfolding packed_at fits_at
 packed_bits v x f =
     let n = joined (λ f. value_of v x f) (layout v) in
     sym (bits_bytes (size v) n) ∙ ap (λ w. bits_of w n) (size_width v) ∙ bits_joined (λ f. value_of v x f) (layout v) f

@@ -20,13 +20,11 @@ byte_bits_lem (suc k) =
     ap (λ n. 2 ^ n) e ∙ pow-add 2 8 (k * 8) ∙ ap (λ n. 256 * n) (byte_bits_lem k) ∙ sym (pow-succ' 256 k)
 
 pub width_append : (l m : Layout) → width (l ++ m) ≡ width l + width m
-unfolding width
 width_append [] m = sym (zero-add (width m))
 width_append (p ∷ l) m = ap (λ n. p.1 + n) (width_append l m) ∙ sym (add_assoc p.1 (width l) (width m))
 
 -- the bits above the layout's don't count
 pub parted_low : (l : Layout) (q r : ℕ) → parted l (q * 2 ^ width l + r) ≡ parted l r
-unfolding width parted
 parted_low [] q r = refl
 parted_low (p ∷ l) q r =
     ap (λ n. (p.0, (n / 2 ^ width l) % 2 ^ p.1) ∷ parted l n) at
@@ -39,7 +37,6 @@ parted_low (p ∷ l) q r =
 
 -- what further fields follow has no bearing on the fields before them
 pub parted_append : (l m : Layout) (n : ℕ) → parted (l ++ m) n ≡ parted l (n / 2 ^ width m) ++ parted m n
-unfolding width parted
 parted_append [] m n = refl
 parted_append (p ∷ l) m n =
     ap (λ k. (p.0, k % 2 ^ p.1) ∷ parted (l ++ m) n) at
@@ -53,7 +50,6 @@ parted_append (p ∷ l) m n =
 
 module _ (x : Field → ℕ) where
   pub joined_append : (l m : Layout) → joined x (l ++ m) ≡ joined x l * 2 ^ width m + joined x m
-  unfolding width joined
   joined_append [] m = sym (ap (λ k. k + joined x m) (zero-mul (2 ^ width m)) ∙ zero-add (joined x m))
   joined_append (p ∷ l) m =
       ap (λ k. x p.0 * 2 ^ k + joined x (l ++ m)) (width_append l m)
@@ -61,7 +57,6 @@ module _ (x : Field → ℕ) where
       ∙ simp (joined_append l m, add-mul, mul_assoc, add_assoc)
 
   pub joined_lt : (l : Layout) → within x l ≡ true → joined x l < 2 ^ width l
-  unfolding width joined within
   joined_lt [] h = lit< tt
   joined_lt (p ∷ l) h =
       let t = ltb-true (x p.0) (2 ^ p.1) (and_left (ltb (x p.0) (2 ^ p.1)) (within x l) h) in
@@ -69,7 +64,6 @@ module _ (x : Field → ℕ) where
 
   -- values that fit come back from their bits
   pub parted_joined : (l : Layout) → within x l ≡ true → parted l (joined x l) ≡ map (λ p. (p.0, x p.0)) l
-  unfolding width joined within parted
   parted_joined [] h = refl
   parted_joined (p ∷ l) h =
       let n = joined x l in

@@ -3,7 +3,6 @@ mod Reading
 mod Packing
 pub mod Shown
 pub mod Bits
-mod Kept
 pub mod RoundTrip
 pub mod Ages
 pub mod Stored

@@ -4,15 +4,13 @@ use mathlib.Core.Path.{◌≡◌, ap}
 use native.Mathlib.Omega.{arith}
 use Rattle.filter_hold.specs.Tbf.{from_zero, time_of, time_after}
 use Rattle.filter_hold.specs.declared.tbf.Time.{Time}
-use Rattle.settings.specs.Durations.{separation_from, separation_of}
+use Rattle.settings.specs.Durations.{separation_of}
 use Rattle.settings.specs.declared.setting.Setting.{Setting}
 
 pub separation_whole : (x : Setting) → (separation_of x).sec * 1000000000 + (separation_of x).nanosec ≡ x.separation * 1000000
-unfolding separation_of separation_from
 separation_whole x = omega arith
 
 pub separation_below : (x : Setting) → (separation_of x).nanosec < 1000000000
-unfolding separation_of separation_from
 separation_below x = omega arith
 
 -- due so many ms later

@@ -1,20 +1,19 @@
 -- What bytes of a version show: the fields that every version has are in the first six bytes, by one proof for every layout behind them.
-use Prim.Native.Nat.{ℕ, ◌+◌, ◌*◌, ◌/◌, ◌%◌, ◌^◌, ◌≤◌, ◌<◌}
+use Rattle.std.specs.Prelude.{Option, None, Some, unwrap_or}
+use Prim.Native.Nat.{ℕ, ◌+◌, ◌*◌, ◌/◌, ◌%◌, ◌^◌, ◌≤◌}
 use mathlib.Core.Path.{◌≡◌, refl, sym, ap, ◌∙◌}
 use mathlib.Core.Bool.{Bool, true, false, cond, ◌&&◌}
 use mathlib.Core.List.{List, [], ◌∷◌, ◌++◌}
 use native.Mathlib.Nat.{div-one, div-div-eq-div-mul}
 use native.Mathlib.Omega.{arith}
-use borrow.Author.Tests.{leb-true, eqb-true, le-leb, lt-leb}
+use borrow.Author.Tests.{leb-true, eqb-true}
 use lib.Dec.{eqb, leb}
 use lib.ListN.{length, take, drop, get_or}
 use Rattle.laws.specs.Bytes.{number_of}
 use Rattle.laws.proofs.Bytes.{Bytes}
 use Rattle.laws.proofs.Lists.{and_left}
 use Rattle.settings.specs.Layout as L
-use Rattle.settings.specs.Setting.{setting_in, setting_of, lifespan_of, version_in, good_length}
-use Rattle.settings.specs.declared.setting.Lifespan.{Lifespan}
-use Rattle.settings.specs.declared.setting.Lifespan.TheVariants.{Seconds, Absent}
+use Rattle.settings.specs.Setting.{setting_in, setting_of, version_in, good_length}
 use Rattle.settings.specs.declared.setting.Setting.{Setting}
 use Rattle.settings.proofs.Fields.{byte_bits_lem, parted_append}
 use Rattle.settings.proofs.Reading.{front, back, one_byte, two_bytes}
@@ -22,12 +21,10 @@ use Rattle.settings.proofs.Reading.{front, back, one_byte, two_bytes}
 -- ---- the sizes
 
 later_size : (v : ℕ) (t : Bool) → leb 2 v ≡ t → (L.size v ≡ 6 + cond t 2 0) × (L.width (L.later v) ≡ cond t 2 0 * 8)
-unfolding L.size L.layout L.shared L.later L.width
 later_size v true e = (rw e, rw e)
 later_size v false e = (rw e, rw e)
 
 size_by : (v : ℕ) (t : Bool) → leb 2 v ≡ t → L.size v * 8 ≡ L.width (L.layout v)
-unfolding L.size L.layout L.shared L.later L.width
 size_by v true e = rw e
 size_by v false e = rw e
 
@@ -43,7 +40,6 @@ long_by v n true h = omega (arith, eqb-true n (L.size v) h)
 long_by v n false h = leb-true (L.size v) n (and_left (leb (L.size v) n) (leb n 32) h)
 
 good_long : (v n : ℕ) → good_length v n ≡ true → L.size v ≤ n
-unfolding good_length
 good_long v n h = long_by v n (leb v 2) h
 
 -- ---- the fields
@@ -58,9 +54,9 @@ six bs =
     ∷ (L.separation, number_of (take 2 (drop 4 bs)))
     ∷ []
 
-unfoldable pub shown_lifespan : Bool → List ℕ → Lifespan
-shown_lifespan true bs = Seconds (number_of (take 2 (drop 6 bs)))
-shown_lifespan false bs = Absent
+unfoldable pub shown_lifespan : Bool → List ℕ → Option ℕ
+shown_lifespan true bs = Some (number_of (take 2 (drop 6 bs)))
+shown_lifespan false bs = None
 
 -- the setting, byte by byte, with a lifespan or without
 unfoldable pub shown : Bool → List ℕ → Setting
@@ -102,14 +98,13 @@ module _ (bs : List ℕ) (b : Bytes bs) where
     separation_field = ap (λ n. n % 2 ^ 16) (div-one (number_of (take 6 bs))) ∙ back bs 4 2 (omega arith) b
 
     six_fields : L.parted L.shared (number_of (take 6 bs)) ≡ six bs
-    unfolding L.parted L.shared L.width six
+    unfolding six
     six_fields = rw (first_field, coherent_field, ordered_field, separation_field, front bs 2 4 (omega arith) b)
 
   module _ (v : ℕ) where
     -- the fields of version v, by the bytes
     fields_by : (t : Bool) → leb 2 v ≡ t → L.size v ≤ length bs
         → L.parted (L.layout v) (number_of (take (L.size v) bs)) ≡ six bs ++ L.parted (L.later v) (number_of (take (6 + cond t 2 0) bs))
-    unfolding L.layout
     fields_by t e l =
         let s = later_size v t e in
         let h : 6 + cond t 2 0 ≤ length bs = omega (arith, s.0) in
@@ -119,48 +114,20 @@ module _ (bs : List ℕ) (b : Bytes bs) where
 
     with_later : (t : Bool) → leb 2 v ≡ t → 6 + cond t 2 0 ≤ length bs
         → setting_of (six bs ++ L.parted (L.later v) (number_of (take (6 + cond t 2 0) bs))) ≡ shown t bs
-    unfolding setting_of lifespan_of L.lookup L.or_zero L.later L.parted L.width six shown shown_lifespan
+    unfolding six shown shown_lifespan
     with_later true e h = rw (e, div-one (number_of (take 8 bs)), back bs 6 2 h b)
     with_later false e h = rw e
 
     shown_by : (t : Bool) → leb 2 v ≡ t → L.size v ≤ length bs → setting_in v bs ≡ shown t bs
-    unfolding setting_in
     shown_by t e l =
         let h : 6 + cond t 2 0 ≤ length bs = omega (arith, (later_size v t e).0) in
         ap setting_of (fields_by t e l) ∙ with_later t e h
 
     -- the first four bits are the field `version` of every layout
     pub version_field : L.size v ≤ length bs
-        → L.or_zero (L.lookup L.version (L.parted (L.layout v) (number_of (take (L.size v) bs)))) ≡ version_in bs
-    unfolding L.lookup L.or_zero six version_in
-    version_field l = ap (λ f. L.or_zero (L.lookup L.version f)) (fields_by (leb 2 v) refl l)
+        → unwrap_or (L.lookup L.version (L.parted (L.layout v) (number_of (take (L.size v) bs)))) 0 ≡ version_in bs
+    unfolding six
+    version_field l = ap (λ f. unwrap_or (L.lookup L.version f) 0) (fields_by (leb 2 v) refl l)
 
     pub setting_shown : good_length v (length bs) ≡ true → setting_in v bs ≡ shown (leb 2 v) bs
     setting_shown g = shown_by (leb 2 v) refl (good_long v (length bs) g)
-
-pub good_six : (v n : ℕ) → good_length v n ≡ true → 6 ≤ n
-good_six v n g = omega (arith, (later_size v (leb 2 v) refl).0, good_long v n g)
-
-pub good_eight : (v n : ℕ) → 2 ≤ v → good_length v n ≡ true → 8 ≤ n
-good_eight v n h g = omega (arith, (later_size v true (le-leb 2 v h)).0, good_long v n g)
-
--- ---- the lengths, by the version
-
-module _ (v n : ℕ) where
-  pub length_one : v < 2 → eqb n 6 ≡ good_length v n
-  unfolding good_length
-  length_one h =
-      let s : L.size v ≡ 6 = (later_size v false (lt-leb 2 v h)).0 in
-      rw (s, le-leb v 2 (omega arith))
-
-  pub length_two : v ≡ 2 → eqb n 8 ≡ good_length v n
-  unfolding good_length
-  length_two h =
-      let s : L.size v ≡ 8 = (later_size v true (le-leb 2 v (omega arith))).0 in
-      rw (s, le-leb v 2 (omega arith))
-
-  pub length_more : 2 < v → leb 8 n && leb n 32 ≡ good_length v n
-  unfolding good_length
-  length_more h =
-      let s : L.size v ≡ 8 = (later_size v true (le-leb 2 v (omega arith))).0 in
-      rw (s, lt-leb v 2 h)

@@ -1,6 +1,5 @@
 -- Packed bits: fields one behind the other, the highest bit first (request U13).
-use Rattle.std.specs.Prelude.{ℕ, ◌+◌, ◌*◌, ◌/◌, ◌%◌, ◌^◌, Bool, true, cond, ◌&&◌, List, [], ◌∷◌, ◌++◌, eqb, leb, ltb}
-use Rattle.std.proofs.Math.Option.{Option, none, some}
+use Rattle.std.specs.Prelude.{ℕ, ◌+◌, ◌*◌, ◌/◌, ◌%◌, ◌^◌, Bool, true, cond, ◌&&◌, List, [], ◌∷◌, ◌++◌, eqb, leb, ltb, Option, None, Some}
 
 pub data Field : Type 0 where
   version : Field
@@ -15,41 +14,41 @@ abbrev pub Layout : Type 0
 Layout = List (Field × ℕ)
 
 -- the fields of every version
-unfoldable pub shared : Layout
+abbrev pub shared : Layout
 shared = (version, 4) ∷ (timeout, 12) ∷ (coherent, 8) ∷ (ordered, 8) ∷ (separation, 16) ∷ []
 
 -- those behind them that are read: version 2 appends the lifespan, and what later versions append is not read
-unfoldable pub later : ℕ → Layout
+abbrev pub later : ℕ → Layout
 later v = cond (leb 2 v) ((lifespan, 16) ∷ []) []
 
-unfoldable pub layout : ℕ → Layout
+abbrev pub layout : ℕ → Layout
 layout v = shared ++ later v
 
 -- its bits
-unfoldable pub width : Layout → ℕ
+abbrev pub width : Layout → ℕ
 width [] = 0
 width (p ∷ l) = p.1 + width l
 
 -- its bytes
-unfoldable pub size : ℕ → ℕ
+abbrev pub size : ℕ → ℕ
 size v = width (layout v) / 8
 
 -- ---- values to bits
 
 -- every value fits its field
-unfoldable pub within : (Field → ℕ) → Layout → Bool
+abbrev pub within : (Field → ℕ) → Layout → Bool
 within x [] = true
 within x (p ∷ l) = ltb (x p.0) (2 ^ p.1) && within x l
 
 -- the number whose bits are the fields' bits, one field behind the other
-unfoldable pub joined : (Field → ℕ) → Layout → ℕ
+abbrev pub joined : (Field → ℕ) → Layout → ℕ
 joined x [] = 0
 joined x (p ∷ l) = x p.0 * 2 ^ width l + joined x l
 
 -- ---- bits to values
 
 -- each field with its value in a number of the layout's bits
-unfoldable pub parted : Layout → ℕ → List (Field × ℕ)
+abbrev pub parted : Layout → ℕ → List (Field × ℕ)
 parted [] n = []
 parted (p ∷ l) n = (p.0, (n / 2 ^ width l) % 2 ^ p.1) ∷ parted l n
 
@@ -62,10 +61,6 @@ place separation = 4
 place lifespan = 5
 
 -- a field's value, none where the layout lacks it
-unfoldable pub lookup : Field → List (Field × ℕ) → Option ℕ
-lookup f [] = none
-lookup f (p ∷ l) = cond (eqb (place f) (place p.0)) (some p.1) (lookup f l)
-
-unfoldable pub or_zero : Option ℕ → ℕ
-or_zero none = 0
-or_zero (some n) = n
+abbrev pub lookup : Field → List (Field × ℕ) → Option ℕ
+lookup f [] = None
+lookup f (p ∷ l) = cond (eqb (place f) (place p.0)) (Some p.1) (lookup f l)

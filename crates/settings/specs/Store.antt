@@ -4,22 +4,16 @@ use Rattle.std.specs.Prelude.{ℕ, zero, suc, cond, not, List, [], ◌∷◌, eq
 use Rattle.laws.specs.Answer.{Answer, refused, answered}
 use Rattle.settings.specs.Setting.{version_in, known, good_length, setting_in}
 use Rattle.settings.specs.declared.setting.Setting.{Setting}
-use Rattle.settings.specs.declared.setting_store.SettingStore.{SettingStore}
-use Rattle.settings.specs.declared.setting_store.SaveAnswer.{SaveAnswer}
-use Rattle.settings.specs.declared.setting_store.SaveAnswer.TheVariants as S
-use Rattle.settings.specs.declared.setting_store.Saving.{Saving}
-use Rattle.settings.specs.declared.setting_store.ReadAnswer.{ReadAnswer}
-use Rattle.settings.specs.declared.setting_store.ReadAnswer.TheVariants as R
 
 abbrev pub nothing : List Setting
 nothing = []
 
 -- one more, the newest; the oldest of nine goes
-unfoldable pub saved : Setting → List Setting → List Setting
+abbrev pub saved : Setting → List Setting → List Setting
 saved x l = take 8 (x ∷ l)
 
 -- save: 15, no byte; 16, version 0 or above 7; 15, another length than the version's; else the values are kept
-unfoldable pub save : List ℕ → List Setting → Answer (Unit {0}) × List Setting
+abbrev pub save : List ℕ → List Setting → Answer (Unit {0}) × List Setting
 save bs l =
     cond (eqb (length bs) 0) (refused 15, l)
     (cond (not (known (version_in bs))) (refused 16, l)
@@ -27,24 +21,7 @@ save bs l =
     (answered tt, saved (setting_in (version_in bs) bs) l)))
 
 -- read by age, 0 the newest: 15, an age not stored
-unfoldable pub read_at : ℕ → List Setting → Answer Setting
+abbrev pub read_at : ℕ → List Setting → Answer Setting
 read_at age [] = refused 15
 read_at zero (x ∷ l) = answered x
 read_at (suc age) (x ∷ l) = read_at age l
-
--- ---- what the code's records stand for, with the request's number and values of each case
-
-unfoldable pub store_as : SettingStore → List Setting
-store_as s = take s.len s.kept
-
-unfoldable pub save_answer_as : SaveAnswer → Answer (Unit {0})
-save_answer_as S.Saved = answered tt
-save_answer_as S.BadVersion = refused 16
-save_answer_as S.BadLength = refused 15
-
-unfoldable pub saving_as : Saving → Answer (Unit {0}) × List Setting
-saving_as r = (save_answer_as r.answer, store_as r.store)
-
-unfoldable pub read_as : ReadAnswer → Answer Setting
-read_as (R.Stored x) = answered x
-read_as R.NotStored = refused 15

@@ -1,56 +1,33 @@
 // What a setting means to the history, the filter hold and a sample's lifespan, in nanoseconds.
-ghost use Rattle.std.specs.Prelude.{◌≡◌, true, ◌*◌, ◌<◌};
-ghost use Rattle.settings.specs.Setting.{fits};
-ghost use Rattle.settings.specs.Durations.{durations, durations_as, separation_from, validity_of};
+ghost use Rattle.std.specs.Prelude.{◌≡◌, ◌*◌, ◌<◌};
+ghost use Rattle.refusals.specs.Refusal.{answer_as};
+ghost use Rattle.settings.specs.Durations.{durations, separation_from};
 
-use crate::setting::{Lifespan, Setting};
+use crate::setting::Setting;
 use filter_hold::tbf::Separation;
-
-// How long a sample is valid; absent as the lifespan is.
-#[derive(Clone, Copy)]
-pub enum Validity {
-    Nanoseconds(u64),
-    Absent,
-}
+use refusals::Refusal;
 
 // The history's timeout in nanoseconds, the filter's separation, the lifespan.
 #[derive(Clone, Copy)]
 pub struct Durations {
     pub timeout: u64,
     pub separation: Separation,
-    pub lifespan: Validity,
-}
-
-#[derive(Clone, Copy)]
-pub enum DurationsAnswer {
-    Fitting(Durations),
-    TooWide,
+    pub lifespan: Option<u64>,
 }
 
 impl Setting {
     // Refused, as packing is, where a value is too wide for its field.
-    pub fn durations(self) -> DurationsAnswer
-        ensures { durations_as result ≡ durations self }
+    pub fn durations(self) -> Result<Durations, Refusal>
+        ensures { answer_as result ≡ durations self }
     {
         if !self.fits() {
-            return DurationsAnswer::TooWide;
+            return Err(Refusal::TooWide);
         }
-        DurationsAnswer::Fitting(Durations {
-            timeout: self.timeout * 10000000,
+        Ok(Durations {
+            timeout: self.timeout * 10_000_000,
             separation: separation_from(self.separation),
-            lifespan: self.validity(),
+            lifespan: self.lifespan.map(|seconds| seconds * 1_000_000_000),
         })
-    }
-
-    fn validity(self) -> Validity
-        requires { fits self ≡ true }
-        ensures { result ≡ validity_of self }
-    {
-        let lifespan = self.lifespan;
-        match lifespan {
-            Lifespan::Seconds(seconds) => Validity::Nanoseconds(seconds * 1000000000),
-            Lifespan::Absent => Validity::Absent,
-        }
     }
 }
 
@@ -61,6 +38,6 @@ fn separation_from(ms: u64) -> Separation
 {
     Separation {
         sec: (ms / 1000) as u32,
-        nanosec: (ms % 1000 * 1000000) as u32,
+        nanosec: (ms % 1000 * 1_000_000) as u32,
     }
 }

@@ -1,61 +1,47 @@
 // A setting's values as packed bits, the highest bit first, in versions.
-ghost use Rattle.std.specs.Prelude.{◌≡◌, true, ◌+◌, ◌<◌, length, take, drop};
-ghost use Rattle.laws.specs.Bytes.{bytes_of, number_of};
-ghost use Rattle.settings.specs.Layout.{joined, shared};
-ghost use Rattle.settings.specs.Setting.{value_of, fits, pack, packed_as, setting_in, good_length};
+ghost use Rattle.std.specs.Prelude.{◌≡◌, true, ◌+◌, ◌*◌, ◌<◌, length, take, drop, unwrap_or};
+ghost use Rattle.laws.specs.Bytes.{number_of};
+ghost use Rattle.refusals.specs.Refusal.{answer_as};
+ghost use Rattle.settings.specs.Layout.{joined, shared, size};
+ghost use Rattle.settings.specs.Setting.{value_of, version_of, fits, pack, setting_in, good_length};
 
-use decimal::put_bytes;
-
-#[derive(Clone, Copy)]
-pub enum Lifespan {
-    Seconds(u64),
-    Absent,
-}
+use refusals::Refusal;
 
 // A setting's values: timeout in units of 10 ms, marks of readers, separation in ms, lifespan in seconds.
-#[derive(Clone, Copy)]
+// All are wider than their fields: a value too wide is refused, not cut.
+#[derive(Clone, Copy, Default)]
 pub struct Setting {
     pub timeout: u64,
     pub coherent: u64,
     pub ordered: u64,
     pub separation: u64,
-    pub lifespan: Lifespan,
-}
-
-#[derive(Clone, Copy)]
-pub enum PackAnswer {
-    Packed(usize),
-    TooWide,
-    ListTooShort,
+    pub lifespan: Option<u64>,
 }
 
 impl Setting {
     // Writes the packed bytes from the list's start, version 2 with a lifespan, else 1, and answers how many.
-    pub fn pack(self, out: &mut [u8]) -> PackAnswer
-        ensures { (packed_as result, out.new) ≡ pack self out.old }
+    pub fn pack(self, out: &mut [u8]) -> Result<usize, Refusal>
+        ensures { (answer_as result, out.new) ≡ pack self out.old }
     {
         if !self.fits() {
-            return PackAnswer::TooWide;
+            return Err(Refusal::TooWide);
         }
-        let lifespan = self.lifespan;
-        match lifespan {
-            Lifespan::Seconds(seconds) => {
-                let short = out.len() < 8;
-                if short {
-                    return PackAnswer::ListTooShort;
-                }
-                let first = self.shared_bytes(2);
-                let next = put_bytes(out, 0, &first);
-                let last = [(seconds / 256) as u8, (seconds % 256) as u8];
-                PackAnswer::Packed(put_bytes(out, next, &last))
-            }
-            Lifespan::Absent => {
-                if out.len() < 6 {
-                    return PackAnswer::ListTooShort;
-                }
-                let bytes = self.shared_bytes(1);
-                PackAnswer::Packed(put_bytes(out, 0, &bytes))
-            }
+        let (version, size) = self.version();
+        if out.len() < size {
+            return Err(Refusal::ListTooShort);
+        }
+        let bytes = self.bits(version).to_be_bytes();
+        out[..size].copy_from_slice(&bytes[..size]);
+        Ok(size)
+    }
+
+    // The version that it is packed in, and how many bytes that has.
+    fn version(self) -> (u64, usize)
+        ensures { result ≡ (version_of self, size (version_of self)) }
+    {
+        match self.lifespan {
+            Some(_) => (2, 8),
+            None => (1, 6),
         }
     }
 
@@ -63,39 +49,24 @@ impl Setting {
     pub(crate) fn fits(self) -> bool
         ensures { result ≡ fits self }
     {
-        if 4096 <= self.timeout {
-            return false;
-        }
-        if 256 <= self.coherent {
-            return false;
-        }
-        if 256 <= self.ordered {
-            return false;
-        }
-        if 65536 <= self.separation {
-            return false;
-        }
-        let lifespan = self.lifespan;
-        match lifespan {
-            Lifespan::Seconds(seconds) => seconds < 65536,
-            Lifespan::Absent => true,
-        }
+        self.timeout < 4096
+            && self.coherent < 256
+            && self.ordered < 256
+            && self.separation < 65536
+            && self.lifespan.unwrap_or(0) < 65536
     }
 
-    // The bytes of the fields that every version has.
-    fn shared_bytes(self, version: u64) -> [u8; 6]
+    // The fields that every version has, and the lifespan behind them, 0 where there is none.
+    fn bits(self, version: u64) -> u64
         requires self_value { fits self ≡ true }
         requires version_bound { version < 16 }
-        ensures { result ≡ bytes_of 6 (joined (λ f. value_of version self f) shared) }
+        ensures { result ≡ joined (λ f. value_of version self f) shared * 65536 + unwrap_or self.lifespan 0 }
     {
-        [
-            (version * 16 + self.timeout / 256) as u8,
-            (self.timeout % 256) as u8,
-            self.coherent as u8,
-            self.ordered as u8,
-            (self.separation / 256) as u8,
-            (self.separation % 256) as u8,
-        ]
+        let bits = version << 12 | self.timeout;
+        let bits = bits << 8 | self.coherent;
+        let bits = bits << 8 | self.ordered;
+        let bits = bits << 16 | self.separation;
+        bits << 16 | self.lifespan.unwrap_or(0)
     }
 }
 
@@ -106,10 +77,14 @@ pub(crate) fn setting_in(bytes: &[u8], version: u8) -> Setting
 {
     Setting {
         timeout: pair(bytes, 0) % 4096,
-        coherent: wide(bytes[2]),
-        ordered: wide(bytes[3]),
+        coherent: u64::from(bytes[2]),
+        ordered: u64::from(bytes[3]),
         separation: pair(bytes, 4),
-        lifespan: lifespan_in(bytes, version),
+        lifespan: if version < 2 {
+            None
+        } else {
+            Some(pair(bytes, 6))
+        },
     }
 }
 
@@ -118,39 +93,16 @@ fn pair(bytes: &[u8], at: usize) -> u64
     requires { at + 1 < length bytes.now }
     ensures { result ≡ number_of (take 2 (drop at bytes.now)) }
 {
-    wide(bytes[at]) * 256 + wide(bytes[at + 1])
-}
-
-fn wide(x: u8) -> u64
-    ensures { result ≡ x }
-{
-    x as u64
-}
-
-// From version 2 on.
-fn lifespan_in(bytes: &[u8], version: u8) -> Lifespan
-    requires { good_length version (length bytes.now) ≡ true }
-    ensures { result ≡ (setting_in version bytes.now).lifespan }
-{
-    if version <= 1 {
-        return Lifespan::Absent;
-    }
-    Lifespan::Seconds(pair(bytes, 6))
+    u64::from(u16::from_be_bytes([bytes[at], bytes[at + 1]]))
 }
 
 // As many bytes as the version has.
 pub(crate) fn good_length(version: u8, n: usize) -> bool
     ensures { result ≡ good_length version n }
 {
-    if version < 2 {
-        return n == 6;
+    match version {
+        0 | 1 => n == 6,
+        2 => n == 8,
+        _ => (8..=32).contains(&n),
     }
-    let second = version == 2;
-    if second {
-        return n == 8;
-    }
-    if n < 8 {
-        return false;
-    }
-    n <= 32
 }

@@ -1,121 +1,60 @@
 // The last eight settings saved, read by age.
-ghost use Rattle.std.specs.Prelude.{◌≡◌, ◌+◌, min};
-ghost use Rattle.settings.specs.Store.{nothing, store_as, saved, save, saving_as, read_at, read_as};
+ghost use Rattle.std.specs.Prelude.{◌≡◌};
+ghost use Rattle.refusals.specs.Refusal.{answer_as};
+ghost use Rattle.settings.specs.Store.{nothing, save, read_at};
 
-use crate::setting::{Lifespan, Setting, good_length, setting_in};
+use crate::setting::{Setting, good_length, setting_in};
+use arrayvec::ArrayVec;
+use refusals::Refusal;
+use std::marker::Model;
 
-// The first len are stored, the newest first; len above 8 counts as 8.
-#[derive(Clone, Copy)]
+// The newest first.
+#[derive(Drop)]
 pub struct SettingStore {
-    pub len: usize,
-    pub kept: [Setting; 8],
+    kept: ArrayVec<Setting, 8>,
 }
 
-#[derive(Clone, Copy)]
-pub enum SaveAnswer {
-    Saved,
-    BadVersion,
-    BadLength,
-}
+impl Model for SettingStore {
+    ghost use Rattle.std.specs.Prelude.{List};
+    ghost use Rattle.settings.specs.declared.setting.Setting.{Setting};
 
-// How a save ended, with the store after it.
-#[derive(Clone, Copy)]
-pub struct Saving {
-    pub answer: SaveAnswer,
-    pub store: SettingStore,
-}
+    ghost Value = { List Setting };
 
-#[derive(Clone, Copy)]
-pub enum ReadAnswer {
-    Stored(Setting),
-    NotStored,
+    ghost view = { λ s. s.kept.items };
 }
 
 impl SettingStore {
     pub fn new() -> SettingStore
-        ensures { store_as result ≡ nothing }
+        ensures { result ≡ nothing }
     {
-        let free = Setting {
-            timeout: 0,
-            coherent: 0,
-            ordered: 0,
-            separation: 0,
-            lifespan: Lifespan::Absent,
-        };
-        let kept = [free; 8];
-        SettingStore { len: 0, kept }
+        SettingStore {
+            kept: ArrayVec::new(),
+        }
     }
 
     // Keeps the values of packed bytes as the newest; of nine the oldest goes.
-    pub fn save(self, bytes: &[u8]) -> Saving
-        ensures { saving_as result ≡ save bytes.now (store_as self) }
+    pub fn save(&mut self, bytes: &[u8]) -> Result<(), Refusal>
+        ensures { (answer_as result, self.new) ≡ save bytes.now self.old }
     {
-        let none = bytes.len() == 0;
-        if none {
-            return Saving {
-                answer: SaveAnswer::BadLength,
-                store: self,
-            };
-        }
-        let version = bytes[0] / 16;
-        if version < 1 {
-            return Saving {
-                answer: SaveAnswer::BadVersion,
-                store: self,
-            };
-        }
-        let above = 7 < version;
-        if above {
-            return Saving {
-                answer: SaveAnswer::BadVersion,
-                store: self,
-            };
+        let [first, ..] = bytes else {
+            return Err(Refusal::BadLength);
+        };
+        let version = first / 16;
+        if !(1..=7).contains(&version) {
+            return Err(Refusal::BadVersion);
         }
         if !good_length(version, bytes.len()) {
-            return Saving {
-                answer: SaveAnswer::BadLength,
-                store: self,
-            };
+            return Err(Refusal::BadLength);
         }
-        let x = setting_in(bytes, version);
-        let more = self.saved(x);
-        Saving {
-            answer: SaveAnswer::Saved,
-            store: more,
-        }
+        self.kept.truncate(7);
+        self.kept.insert(0, setting_in(bytes, version));
+        Ok(())
     }
 
     // The values of an age, 0 the newest.
-    pub fn read(self, age: usize) -> ReadAnswer
-        ensures { read_as result ≡ read_at age (store_as self) }
+    pub fn read(&self, age: usize) -> Result<Setting, Refusal>
+        ensures { answer_as result ≡ read_at age self.now }
     {
-        let n = self.len;
-        if n <= age {
-            return ReadAnswer::NotStored;
-        }
-        let unknown = 8 <= age;
-        if unknown {
-            return ReadAnswer::NotStored;
-        }
-        let kept = self.kept;
-        ReadAnswer::Stored(kept[age])
+        self.kept.get(age).copied().ok_or(Refusal::NotStored)
     }
-
-    fn saved(self, x: Setting) -> SettingStore
-        ensures { store_as result ≡ saved x (store_as self) }
-    {
-        let len = one_more(self.len);
-        let k = self.kept;
-        let kept = [x, k[0], k[1], k[2], k[3], k[4], k[5], k[6]];
-        SettingStore { len, kept }
-    }
-}
-
-fn one_more(n: usize) -> usize
-    ensures { result ≡ min (n + 1) 8 }
-{
-    if n < 8 {
-        return n + 1;
-    }
-    8
 }

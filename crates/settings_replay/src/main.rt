@@ -10,273 +10,159 @@
 // 170 before; `S` takes at most 100 bytes. Any other line is `bad`. Before the first line nothing is stored.
 #![tactic(auto)]
 
-ghost use Rattle.std.specs.Prelude.{◌≤◌};
-
-use decimal::{put_bytes, put_unsigned};
-use fields::{field_count, long_at, only_byte};
-use filter_hold::tbf::Separation;
-use hex_digits::{put_hex, read_hex};
-use line_input::{begin, next_line};
-use settings::durations::{Durations, DurationsAnswer, Validity};
-use settings::setting::{Lifespan, PackAnswer, Setting};
-use settings::setting_store::{ReadAnswer, SaveAnswer, SettingStore};
+use arrayvec::ArrayVec;
+use decimal::text::{put_bytes, put_unsigned};
+use fields::line::Fields;
+use hex_digits::text::{put_hex, read_hex};
+use line_input::Lines;
+use line_output::Output;
+use line_output::answers::{Text, answer_lines};
+use refusals::Refusal;
+use settings::durations::Durations;
+use settings::setting::Setting;
+use settings::setting_store::SettingStore;
 use std::io;
 
-// Room for every answer.
-type Out = [u8; 160];
+// ---- fields: none where they are bad
+
+fn take_setting(fields: &mut Fields) -> Option<Setting> {
+    Some(Setting {
+        timeout: fields.unsigned()?,
+        coherent: fields.unsigned()?,
+        ordered: fields.unsigned()?,
+        separation: fields.unsigned()?,
+        lifespan: if fields.dash() {
+            None
+        } else {
+            Some(fields.unsigned()?)
+        },
+    })
+}
+
+fn take_bytes(fields: &mut Fields) -> Option<ArrayVec<u8, 100>> {
+    match fields.text()? {
+        b"" => None,
+        b"-" => Some(ArrayVec::new()),
+        digits => read_hex(digits),
+    }
+}
+
+// ---- answers
+
+fn put_refusal(text: &mut Text, refusal: Refusal) {
+    put_bytes(text, b"refused ");
+    put_unsigned(text, refusal.number());
+}
+
+fn put_list(text: &mut Text, list: &[u8]) {
+    match list {
+        [] => put_bytes(text, b"-"),
+        _ => put_hex(text, list),
+    }
+}
+
+// Numbers, and the lifespan behind them.
+fn put_values(text: &mut Text, numbers: &[u64], lifespan: Option<u64>) {
+    for number in numbers {
+        put_unsigned(text, *number);
+        put_bytes(text, b" ");
+    }
+    match lifespan {
+        Some(n) => put_unsigned(text, n),
+        None => put_bytes(text, b"-"),
+    }
+}
+
+fn put_setting(text: &mut Text, x: Setting) {
+    let numbers = [x.timeout, x.coherent, x.ordered, x.separation];
+    put_values(text, &numbers, x.lifespan);
+}
+
+fn put_durations(text: &mut Text, x: Durations) {
+    let sec = u64::from(x.separation.sec);
+    let nanosec = u64::from(x.separation.nanosec);
+    put_values(text, &[x.timeout, sec, nanosec], x.lifespan);
+}
+
+// ---- calls: none where the line is bad
+
+fn pack(mut fields: Fields, text: &mut Text) -> Option<()> {
+    let setting = take_setting(&mut fields)?;
+    let room = fields.unsigned()?;
+    fields.end()?;
+    let mut places = [170u8; 40];
+    let list = places.get_mut(..room as usize)?;
+    match setting.pack(list) {
+        Ok(n) => put_unsigned(text, n as u64),
+        Err(refusal) => put_refusal(text, refusal),
+    }
+    put_bytes(text, b" ");
+    put_list(text, list);
+    Some(())
+}
+
+fn save(store: &mut SettingStore, mut fields: Fields, text: &mut Text) -> Option<()> {
+    let bytes = take_bytes(&mut fields)?;
+    fields.end()?;
+    match store.save(bytes.as_slice()) {
+        Ok(()) => put_bytes(text, b"ok"),
+        Err(refusal) => put_refusal(text, refusal),
+    }
+    Some(())
+}
+
+fn read(store: &SettingStore, mut fields: Fields, text: &mut Text) -> Option<()> {
+    let age = fields.unsigned()?;
+    fields.end()?;
+    match store.read(age as usize) {
+        Ok(setting) => put_setting(text, setting),
+        Err(refusal) => put_refusal(text, refusal),
+    }
+    Some(())
+}
+
+fn durations(mut fields: Fields, text: &mut Text) -> Option<()> {
+    let setting = take_setting(&mut fields)?;
+    fields.end()?;
+    match setting.durations() {
+        Ok(durations) => put_durations(text, durations),
+        Err(refusal) => put_refusal(text, refusal),
+    }
+    Some(())
+}
+
+// A line, without its newline. Its fields are read before anything is changed or put.
+fn run_line(store: &mut SettingStore, line: &[u8], text: &mut Text) -> Option<()> {
+    let mut fields = Fields::of_line(line);
+    match fields.letter()? {
+        b'N' => {
+            fields.end()?;
+            *store = SettingStore::new();
+            put_bytes(text, b"ok");
+            Some(())
+        }
+        b'P' => pack(fields, text),
+        b'S' => save(store, fields, text),
+        b'R' => read(store, fields, text),
+        b'D' => durations(fields, text),
+        _ => None,
+    }
+}
+
+fn answer_line(store: &mut SettingStore, line: &[u8], text: &mut Text) {
+    if run_line(store, line, text).is_none() {
+        put_bytes(text, b"bad");
+    }
+    put_bytes(text, b"\n");
+}
 
 // No good line has more than 202 bytes, so one that is cut to fit is bad, as it was.
-type Line = [u8; 256];
-
-// The store after a call, and how many bytes of the answer there are.
-#[derive(Drop)]
-struct Answer {
-    store: SettingStore,
-    length: usize,
-}
-
-// What was read of fields, with whether they are good.
-#[derive(Drop)]
-struct ReadLifespan {
-    ok: bool,
-    value: Lifespan,
-}
-
-#[derive(Drop)]
-struct ReadSetting {
-    ok: bool,
-    value: Setting,
-}
-
-fn lifespan_at(line: &[u8]) -> ReadLifespan {
-    if only_byte(line, 5) == b'-' {
-        return ReadLifespan {
-            ok: true,
-            value: Lifespan::Absent,
-        };
-    }
-    let seconds = long_at(line, 5);
-    ReadLifespan {
-        ok: seconds.ok,
-        value: Lifespan::Seconds(seconds.value),
-    }
-}
-
-fn setting_at(line: &[u8]) -> ReadSetting {
-    let timeout = long_at(line, 1);
-    let coherent = long_at(line, 2);
-    let ordered = long_at(line, 3);
-    let separation = long_at(line, 4);
-    let last = lifespan_at(line);
-    let lifespan = last.value;
-    let value = Setting {
-        timeout: timeout.value,
-        coherent: coherent.value,
-        ordered: ordered.value,
-        separation: separation.value,
-        lifespan,
-    };
-    ReadSetting {
-        ok: timeout.ok & coherent.ok & ordered.ok & separation.ok & last.ok,
-        value,
-    }
-}
-
-fn put_next(out: &mut Out, at: usize, x: u64) -> usize {
-    let next = put_bytes(out, at, b" ");
-    put_unsigned(out, next, x)
-}
-
-fn put_last(out: &mut Out, at: usize, x: u64) -> usize {
-    let next = put_next(out, at, x);
-    put_bytes(out, next, b"\n")
-}
-
-fn put_list(out: &mut Out, at: usize, list: &[u8]) -> usize {
-    let mut next = put_bytes(out, at, b" ");
-    if list.len() == 0 {
-        return put_bytes(out, next, b"-\n");
-    }
-    next = put_hex(out, next, list);
-    put_bytes(out, next, b"\n")
-}
-
-fn put_packed(out: &mut Out, answer: PackAnswer) -> usize {
-    match answer {
-        PackAnswer::Packed(n) => put_unsigned(out, 0, n as u64),
-        PackAnswer::TooWide => put_bytes(out, 0, b"refused 15"),
-        PackAnswer::ListTooShort => put_bytes(out, 0, b"refused 5"),
-    }
-}
-
-fn pack_into(x: Setting, list: &mut [u8], out: &mut Out) -> usize {
-    let answer = x.pack(list);
-    let at = put_packed(out, answer);
-    put_list(out, at, list)
-}
-
-fn pack(line: &[u8], out: &mut Out) -> usize {
-    let read = setting_at(line);
-    let room = long_at(line, 6);
-    let good = read.ok & room.ok & (field_count(line) == 7);
-    let n = room.value as usize;
-    if !good || 40 < n {
-        return put_bytes(out, 0, b"bad\n");
-    }
-    let mut list = [170u8; 40];
-    pack_into(read.value, &mut list[0..n], out)
-}
-
-fn put_setting(out: &mut Out, x: Setting) -> usize {
-    let mut at = put_unsigned(out, 0, x.timeout);
-    at = put_next(out, at, x.coherent);
-    at = put_next(out, at, x.ordered);
-    at = put_next(out, at, x.separation);
-    let lifespan = x.lifespan;
-    match lifespan {
-        Lifespan::Seconds(seconds) => put_last(out, at, seconds),
-        Lifespan::Absent => put_bytes(out, at, b" -\n"),
-    }
-}
-
-fn read(store: SettingStore, line: &[u8], out: &mut Out) -> usize {
-    let age = long_at(line, 1);
-    if !age.ok | (field_count(line) != 2) {
-        return put_bytes(out, 0, b"bad\n");
-    }
-    let answer = store.read(age.value as usize);
-    match answer {
-        ReadAnswer::Stored(x) => put_setting(out, x),
-        ReadAnswer::NotStored => put_bytes(out, 0, b"refused 15\n"),
-    }
-}
-
-fn put_separation(out: &mut Out, at: usize, separation: Separation) -> usize {
-    let next = put_next(out, at, separation.sec as u64);
-    put_next(out, next, separation.nanosec as u64)
-}
-
-fn put_durations(out: &mut Out, x: Durations) -> usize {
-    let mut at = put_unsigned(out, 0, x.timeout);
-    at = put_separation(out, at, x.separation);
-    let lifespan = x.lifespan;
-    match lifespan {
-        Validity::Nanoseconds(n) => put_last(out, at, n),
-        Validity::Absent => put_bytes(out, at, b" -\n"),
-    }
-}
-
-fn durations(line: &[u8], out: &mut Out) -> usize {
-    let read = setting_at(line);
-    if !read.ok | (field_count(line) != 6) {
-        return put_bytes(out, 0, b"bad\n");
-    }
-    let x = read.value;
-    let answer = x.durations();
-    match answer {
-        DurationsAnswer::Fitting(durations) => put_durations(out, durations),
-        DurationsAnswer::TooWide => put_bytes(out, 0, b"refused 15\n"),
-    }
-}
-
-fn look(store: SettingStore, call: u8, line: &[u8], out: &mut Out) -> usize {
-    match call {
-        b'P' => pack(line, out),
-        b'R' => read(store, line, out),
-        b'D' => durations(line, out),
-        _ => put_bytes(out, 0, b"bad\n"),
-    }
-}
-
-fn say(store: SettingStore, text: &[u8], out: &mut Out) -> Answer {
-    let length = put_bytes(out, 0, text);
-    Answer { store, length }
-}
-
-fn save_bytes(store: SettingStore, bytes: &[u8], out: &mut Out) -> Answer {
-    let saving = store.save(bytes);
-    let answer = saving.answer;
-    let after = saving.store;
-    match answer {
-        SaveAnswer::Saved => say(after, b"ok\n", out),
-        SaveAnswer::BadVersion => say(after, b"refused 16\n", out),
-        SaveAnswer::BadLength => say(after, b"refused 15\n", out),
-    }
-}
-
-fn save_hex(store: SettingStore, field: &[u8], bytes: &mut [u8], out: &mut Out) -> Answer {
-    if read_hex(field, bytes) {
-        return save_bytes(store, bytes, out);
-    }
-    say(store, b"bad\n", out)
-}
-
-fn save(store: SettingStore, field: &[u8], out: &mut Out) -> Answer {
-    if field.len() == 1 && field[0] == b'-' {
-        return save_bytes(store, b"", out);
-    }
-    let n = field.len() / 2;
-    if n == 0 || 100 < n {
-        return say(store, b"bad\n", out);
-    }
-    let mut bytes = [0u8; 100];
-    save_hex(store, field, &mut bytes[0..n], out)
-}
-
-// A line, without its newline. Its fields are read before anything is changed.
-fn run_line(store: SettingStore, line: &[u8], out: &mut Out) -> Answer {
-    let call = only_byte(line, 0);
-    if line.len() < 2 {
-        if call == b'N' {
-            return say(SettingStore::new(), b"ok\n", out);
-        }
-        return say(store, b"bad\n", out);
-    }
-    if call == b'S' {
-        return save(store, &line[2..], out);
-    }
-    let length = look(store, call, line, out);
-    Answer { store, length }
-}
-
-fn print(rt: &impl Print, out: &Out, length: usize) -> io::Result<()> {
-    let text: &[u8] = out;
-    if length <= text.len() {
-        return rt.write_all(&text[0..length]);
-    }
-    Ok(())
-}
-
-// Prints the answer to the first bytes of a line.
-fn answer_line(
-    rt: &impl Print,
-    store: SettingStore,
-    line: &Line,
-    length: usize,
-) -> io::Result<SettingStore>
-    requires { length ≤ 256 }
-{
-    let line: &[u8] = line;
-    let mut out = [0u8; 160];
-    let said = run_line(store, &line[0..length], &mut out);
-    print(rt, &out, said.length)?;
-    Ok(said.store)
-}
-
-// So that the loop is seen to end, it counts more lines than any run has.
 fn main(rt: HostRuntime) -> io::Result<()> {
     let mut store = SettingStore::new();
-    let mut stdin = rt.stdin();
-    let mut chunk = [0u8; 65536];
-    let mut line = [0u8; 256];
-    let mut input = begin();
-    for _ in 0..u64::MAX {
-        let next = next_line(&mut stdin, &mut chunk, input, &mut line);
-        if !next.more {
-            break;
-        }
-        store = answer_line(&rt, store, &line, next.length)?;
-        input = next.input;
-    }
-    Ok(())
+    let mut lines = Lines::new(rt.stdin());
+    let mut output = Output::new(rt.stdout());
+    answer_lines(&mut lines, &mut output, |text, line| {
+        answer_line(&mut store, line, text);
+    });
+    output.into_result()
 }

@@ -3,7 +3,7 @@ use Prim.Native.Nat.{ℕ, zero, suc, ◌+◌}
 use mathlib.Core.Path.{◌≡◌, refl, sym, ap, ◌∙◌}
 use mathlib.Core.Bool.{Bool, true, false, ◌&&◌, ◌||◌, not, cond}
 use mathlib.Core.List.{List, [], ◌∷◌, ◌++◌, map}
-use mathlib.Core.Option.{Option, some, none}
+use Rattle.std.specs.Prelude.{Option, Some, None}
 use native.Mathlib.Omega.{arith}
 use lib.IntN.{ℤ, pos, ◌+ℤ◌, ◌-ℤ◌}
 use lib.Dec.{ltb, leb, eqb}
@@ -32,7 +32,7 @@ module _ {K A B : Type 0} (o : Order K) (f : A → B) where
   pub get_over : (k : K) (m : List (K × A)) → get o k (over f m) ≡ map_o f (get o k m)
   unfolding get over
   get_over k [] = refl
-  get_over k (x ∷ m) = elim (o.same k x.0) as (λ b. cond b (some (f x.1)) (get o k (over f m)) ≡ map_o f (cond b (some x.1) (get o k m))) [ true ↦ refl | false ↦ get_over k m ]
+  get_over k (x ∷ m) = elim (o.same k x.0) as (λ b. cond b (Some (f x.1)) (get o k (over f m)) ≡ map_o f (cond b (Some x.1) (get o k m))) [ true ↦ refl | false ↦ get_over k m ]
 
   pub insert_over : (k : K) (v : A) (m : List (K × A)) → insert o k (f v) (over f m) ≡ over f (insert o k v m)
   unfolding insert over
@@ -74,8 +74,8 @@ sum_over n k f h m = sum_map (λ x. n x.1) (λ x. (x.0, f x.1)) m ∙ sum_ext (�
 
 some_map : {A B : Type 0} (f : A → B) (u : Option A) → is_some (map_o f u) ≡ is_some u
 unfolding is_some
-some_map f none = refl
-some_map f (some a) = refl
+some_map f None = refl
+some_map f (Some a) = refl
 
 -- ---- without the writer set
 
@@ -100,18 +100,18 @@ module _ {I : Type 0} where
 
   or_bares : (u : Option (List (Entry I))) → or_default [] (map_o (λ v. bares v) u) ≡ bares (or_default [] u)
   unfolding bares
-  or_bares none = refl
-  or_bares (some v) = refl
+  or_bares None = refl
+  or_bares (Some v) = refl
 
   or_set : (u : Option (OpenSet I)) → or_default no_set (map_o (λ s. bare_set s) u) ≡ bare_set (or_default no_set u)
   unfolding bare_set no_set bares
-  or_set none = refl
-  or_set (some s) = refl
+  or_set None = refl
+  or_set (Some s) = refl
 
   or_group : (u : Option (Group I)) → or_default no_group (map_o (λ g. bare_group g) u) ≡ bare_group (or_default no_group u)
   unfolding bare_group no_group over
-  or_group none = refl
-  or_group (some g) = refl
+  or_group None = refl
+  or_group (Some g) = refl
 
   bares_snoc : (l : List (Entry I)) (e : Entry I) → bares l ++ (bare e ∷ []) ≡ bares (l ++ (e ∷ []))
   unfolding bares
@@ -141,12 +141,12 @@ module _ {I : Type 0} where
 
   take_bare : (e : Entry I) (a : Option SetEnd) (s : OpenSet I) → take_in (bare e) a (bare_set s) ≡ bare_set (take_in e a s)
   unfolding ended with_end with_member bare_set bare
-  take_bare e (some x) s = refl
-  take_bare e none s = ap (λ m. record { members = m; ends = s.ends; end_committed = s.end_committed }) (bares_snoc s.members e)
+  take_bare e (Some x) s = refl
+  take_bare e None s = ap (λ m. record { members = m; ends = s.ends; end_committed = s.end_committed }) (bares_snoc s.members e)
 
   commit_to_bare : (z : Option ℤ) (e : Entry I) (l : Loop I) → commit_to z (bare e) (bare_loop l) ≡ bare_loop (commit_to z e l)
   unfolding bare_loop bare_group with_sets entry
-  commit_to_bare (some first) e l =
+  commit_to_bare (Some first) e l =
       let a : or_default no_set (get numbers first (over (λ s. bare_set s) l.group.sets)) ≡ bare_set (or_default no_set (get numbers first l.group.sets)) =
       ap (λ u. or_default no_set u) (get_over numbers (λ s. bare_set s) first l.group.sets) ∙ or_set (get numbers first l.group.sets) in
       let b : take_in (bare e) (bare e).at_end (or_default no_set (get numbers first (over (λ s. bare_set s) l.group.sets))) ≡ bare_set (take_in e e.at_end (or_default no_set (get numbers first l.group.sets))) =
@@ -154,7 +154,7 @@ module _ {I : Type 0} where
       ap (λ m. record { group = record { committed = l.group.committed; pending = over (λ v. bares v) l.group.pending; writers = l.group.writers; current_gsn = l.group.current_gsn; sets = m }; out = l.out; counts = l.counts })
       (ap (λ v. insert numbers first v (over (λ s. bare_set s) l.group.sets)) b
       ∙ insert_over numbers (λ s. bare_set s) first (take_in e e.at_end (or_default no_set (get numbers first l.group.sets))) l.group.sets)
-  commit_to_bare none e l = unfold bare in refl
+  commit_to_bare None e l = unfold bare in refl
 
   commit_bare : (e : Entry I) (l : Loop I) → commit (bare e) (bare_loop l) ≡ bare_loop (commit e l)
   unfolding commit
@@ -174,8 +174,8 @@ module _ {I : Type 0} where
 
   drop_if_bare : (first : ℤ) (l : Loop I) (u : Option (OpenSet I)) → drop_if first (bare_loop l) (map_o (λ s. bare_set s) u) ≡ bare_loop (drop_if first l u)
   unfolding bare_loop bare_group with_sets
-  drop_if_bare first l none = refl
-  drop_if_bare first l (some s) =
+  drop_if_bare first l None = refl
+  drop_if_bare first l (Some s) =
       ap (λ m. record { group = record { committed = l.group.committed; pending = over (λ v. bares v) l.group.pending; writers = l.group.writers; current_gsn = l.group.current_gsn; sets = m }; out = l.out; counts = discarding (length (bare_set s).members) l.counts }) (remove_over numbers (λ s. bare_set s) first l.group.sets)
       ∙ ap (λ n. record { group = record { committed = l.group.committed; pending = over (λ v. bares v) l.group.pending; writers = l.group.writers; current_gsn = l.group.current_gsn; sets = over (λ s. bare_set s) (remove numbers first l.group.sets) }; out = l.out; counts = discarding n l.counts }) (set_length s)
 
@@ -216,14 +216,14 @@ module _ {I : Type 0} where
       ∙ commit_each_bare (or_default [] (get numbers next l.group.pending)) (taken next k l)
 
   take_if_bare : (r y : Bool) (next : ℤ) (k : ℕ) (l : Loop I) → take_if r y next k (bare_loop l) ≡ map_o (λ m. bare_loop m) (take_if r y next k l)
-  take_if_bare true y next k l = ap some (take_next_bare next 0 l)
+  take_if_bare true y next k l = ap Some (take_next_bare next 0 l)
   take_if_bare false true next k l = refl
-  take_if_bare false false next k l = ap some (take_next_bare next k l)
+  take_if_bare false false next k l = ap Some (take_next_bare next k l)
 
   waited_bare : (now : ℕ) (u : Option (Entry I)) → waited now (map_o (λ e. bare e) u) ≡ waited now u
   unfolding bare
-  waited_bare now none = refl
-  waited_bare now (some e) = refl
+  waited_bare now None = refl
+  waited_bare now (Some e) = refl
 
   items_bare : (l : List (Entry I)) → items (bares l) ≡ items l
   unfolding items bares bare
@@ -232,8 +232,8 @@ module _ {I : Type 0} where
 
   copies_in_bare : (key : Guid) (g : Group I) (view : GroupView) (gsn : ℤ) (u : Option (List (Entry I))) → copies_in key (bare_group g) view gsn (map_o (λ v. bares v) u) ≡ copies_in key g view gsn u
   unfolding bare_group bares bare
-  copies_in_bare key g view gsn none = refl
-  copies_in_bare key g view gsn (some es) =
+  copies_in_bare key g view gsn None = refl
+  copies_in_bare key g view gsn (Some es) =
       all_map _ (λ e. bare e) es
       ∙ all_ext _ _ (λ e. all_ext _ _ (λ c. ap (λ b. not (same_guid e.writer c.0) || b || is_some_and (λ p. is_past p c.1 gsn) (get guids c.0 g.writers)) (any_map (λ other. eqb c.1 other.reader) (λ e. bare e) es)) (view.counted key)) es
 
@@ -287,8 +287,8 @@ module _ {I : Type 0} where
         ∙ ap (λ k. ltb k timeout) (waited_bare now (first_of (or_default [] (get numbers n l.group.pending))))
 
     at_head_bare : (l : Loop I) (u : Option (ℤ × List (Entry I))) → at_head key view now timeout (bare_loop l) (map_o (λ x. (x.0, bares x.1)) u) ≡ map_o (λ m. bare_loop m) (at_head key view now timeout l u)
-    at_head_bare l none = refl
-    at_head_bare l (some x) =
+    at_head_bare l None = refl
+    at_head_bare l (Some x) =
         let y : Bool = ltb (waited now (first_of (or_default [] (get numbers x.0 (bare_loop l).group.pending)))) timeout in
         let z : Bool = ltb (waited now (first_of (or_default [] (get numbers x.0 l.group.pending)))) timeout in
         ap (λ c. take_if (is_ready key view now timeout (bare_loop l).group (c +ℤ pos 1) x.0) y x.0 (as_u64 (x.0 -ℤ (c +ℤ pos 1))) (bare_loop l)) (committed_bare l)
@@ -308,7 +308,7 @@ module _ {I : Type 0} where
     finish_or_bare : (b : Bool) (z : ℤ) (s : OpenSet I) (l : Loop I) → finish_or key view now timeout b z (bare_set s) (bare_loop l) ≡ map_o (λ m. bare_loop m) (finish_or key view now timeout b z s l)
     finish_or_bare true z s l = refl
     finish_or_bare false z s l =
-        ap some
+        ap Some
         (ap (λ a. finish_set (bare_set s) (view.counted key) a (record { group = with_sets (remove numbers z (bare_loop l).group.sets) (bare_loop l).group; out = (bare_loop l).out; counts = (bare_loop l).counts })) (all_ends_bare s)
         ∙ ap (λ m. finish_set (bare_set s) (view.counted key) (all_ends key view now timeout s) m) (removed_bare z l)
         ∙ finish_set_bare s (view.counted key) (all_ends key view now timeout s) (record { group = with_sets (remove numbers z l.group.sets) l.group; out = l.out; counts = l.counts }))
@@ -322,8 +322,8 @@ module _ {I : Type 0} where
     pending_first l = first_over (λ v. bares v) l.group.pending
 
     at_ended_bare : (l : Loop I) (u : Option (ℤ × OpenSet I)) → at_ended key view now timeout (bare_loop l) (map_o (λ x. (x.0, bare_set x.1)) u) ≡ map_o (λ m. bare_loop m) (at_ended key view now timeout l u)
-    at_ended_bare l none = ap (λ u. at_head key view now timeout (bare_loop l) u) (pending_first l) ∙ at_head_bare l (first_of l.group.pending)
-    at_ended_bare l (some x) =
+    at_ended_bare l None = ap (λ u. at_head key view now timeout (bare_loop l) u) (pending_first l) ∙ at_head_bare l (first_of l.group.pending)
+    at_ended_bare l (Some x) =
         let s : OpenSet I = or_default no_set (get numbers x.0 l.group.sets) in
         ap (λ t. finish_or key view now timeout (not (all_ends key view now timeout t) && ltb (waited now (first_of t.members)) timeout) x.0 t (bare_loop l)) (ap (λ u. or_default no_set u) (get_set x.0 l) ∙ or_set (get numbers x.0 l.group.sets))
         ∙ ap (λ b. finish_or key view now timeout (not b && ltb (waited now (first_of (bare_set s).members)) timeout) x.0 (bare_set s) (bare_loop l)) (all_ends_bare s)
@@ -343,7 +343,7 @@ module _ {I : Type 0} where
     loop_bare zero l = refl
     loop_bare (suc k) l =
         ap (λ u. or_return key view now timeout (λ m. release_group key view now timeout k m) (bare_loop l) u) (turn_bare l)
-        ∙ (elim (turn key view now timeout l) as (λ u. or_return key view now timeout (λ m. release_group key view now timeout k m) (bare_loop l) (map_o (λ m. bare_loop m) u) ≡ bare_loop (or_return key view now timeout (λ m. release_group key view now timeout k m) l u)) [ none ↦ refl | some m ↦ loop_bare k m ])
+        ∙ (elim (turn key view now timeout l) as (λ u. or_return key view now timeout (λ m. release_group key view now timeout k m) (bare_loop l) (map_o (λ m. bare_loop m) u) ≡ bare_loop (or_return key view now timeout (λ m. release_group key view now timeout k m) l u)) [ None ↦ refl | Some m ↦ loop_bare k m ])
 
   group_loop : (key : Guid) (view : GroupView) (now timeout turns : ℕ) (g : Group I) (out : List (ℕ × I)) (c : ReleaseCounts)
       → release_group key view now timeout turns (record { group = bare_group g; out = out; counts = c }) ≡ bare_loop (release_group key view now timeout turns (record { group = g; out = out; counts = c }))
@@ -400,8 +400,8 @@ module _ {I : Type 0} where
 
   join_or_bare : (w : Guid) (r : ℕ) (x : SetEnd) (z : ℤ) (g : Group I) (u : Option (OpenSet I)) → join_or w r x z (bare_group g) (map_o (λ s. bare_set s) u) ≡ bare_did (join_or w r x z g u)
   unfolding bare_group with_sets with_end
-  join_or_bare w r x z g none = refl
-  join_or_bare w r x z g (some s) =
+  join_or_bare w r x z g None = refl
+  join_or_bare w r x z g (Some s) =
       ap (λ m. did_join (record { committed = g.committed; pending = over (λ v. bares v) g.pending; writers = g.writers; current_gsn = g.current_gsn; sets = m }))
       (ap (λ v. insert numbers z v (over (λ s. bare_set s) g.sets)) (end_bare w r x s) ∙ insert_over numbers (λ s. bare_set s) z (record { members = s.members; ends = insert pairs (w, r) x s.ends; end_committed = s.end_committed }) g.sets)
 
@@ -411,9 +411,9 @@ module _ {I : Type 0} where
 
   joins_bare : (e : Entry I) (g : Group I) (a : Option SetEnd) (z : Option ℤ) → joins (bare e) (bare_group g) a z ≡ bare_did (joins e g a z)
   unfolding bare
-  joins_bare e g none z = refl
-  joins_bare e g (some x) none = refl
-  joins_bare e g (some x) (some z) = ap (λ u. join_or e.writer e.reader x z (bare_group g) u) (sets_get z g) ∙ join_or_bare e.writer e.reader x z g (get numbers z g.sets)
+  joins_bare e g None z = refl
+  joins_bare e g (Some x) None = refl
+  joins_bare e g (Some x) (Some z) = ap (λ u. join_or e.writer e.reader x z (bare_group g) u) (sets_get z g) ∙ join_or_bare e.writer e.reader x z g (get numbers z g.sets)
 
   joins_own : (e : Entry I) (g : Group I) → joins (bare e) (bare_group g) (bare e).at_end (bare e).info.coherent_set_gsn ≡ bare_did (joins e g e.at_end e.info.coherent_set_gsn)
   unfolding bare
@@ -489,8 +489,8 @@ module _ {I : Type 0} where
 
   new_end_bare : (e : Entry I) (g : Group I) (z : Option ℤ) → new_end (bare e) (bare_group g) z ≡ new_end e g z
   unfolding bare
-  new_end_bare e g none = refl
-  new_end_bare e g (some z) =
+  new_end_bare e g None = refl
+  new_end_bare e g (Some z) =
       ap (λ u. not (is_some (get pairs (e.writer, e.reader) (or_default no_set u).ends))) (sets_get z g)
       ∙ ap (λ (s : OpenSet I). not (is_some (get pairs (e.writer, e.reader) s.ends))) (or_set (get numbers z g.sets))
       ∙ ap (λ m. not (is_some (get pairs (e.writer, e.reader) m))) (ends_bare (or_default no_set (get numbers z g.sets)))

@@ -4,7 +4,7 @@ use Prim.Native.Nat.{ℕ, zero, suc, ◌+◌, ◌-◌, ◌^◌, min, ◌≤◌, 
 use mathlib.Core.Path.{◌≡◌, refl, sym, ap, ◌∙◌, subst}
 use mathlib.Core.Bool.{Bool, true, false, ◌&&◌, ◌||◌, not, cond}
 use mathlib.Core.List.{List, [], ◌∷◌, ◌++◌, map}
-use mathlib.Core.Option.{Option, some, none}
+use Rattle.std.specs.Prelude.{Option, Some, None}
 use native.Mathlib.Omega.{arith}
 use lib.IntN.{ℤ, pos}
 use lib.ListN.{length}
@@ -86,8 +86,8 @@ module _ {X : Type 0} where
   unfolding members_of is_member
   members_same g z s l k = k.members ∙ ap (λ r. map (λ e. as_entry e) r) (keep_keep (λ h. is_sample h) (λ h. in_set g z h) l)
 
-  pub drop_like : (g : Guid) (ws : List Writer) (a : ℕ) (z : ℤ) (s : OpenSet X) (lp : Loop X) (w : Work X) → get numbers z lp.group.sets ≡ some s → LoopLike g ws a lp w
-      → LoopLike g ws a (drop_if z lp (some s)) (discard g z w)
+  pub drop_like : (g : Guid) (ws : List Writer) (a : ℕ) (z : ℤ) (s : OpenSet X) (lp : Loop X) (w : Work X) → get numbers z lp.group.sets ≡ Some s → LoopLike g ws a lp w
+      → LoopLike g ws a (drop_if z lp (Some s)) (discard g z w)
   unfolding discard with_sets
   drop_like g ws a z s lp w e l =
       let k : OpenLike s (keep (λ h. in_set g z h) w.held) = open_of s (keep (λ h. in_set g z h) w.held) (get numbers z lp.group.sets) e (l.sets.at z) in
@@ -134,16 +134,16 @@ module _ {K A : Type 0} {o : Order K} (lo : Lawful o) (p : K × A → Bool) wher
   pub find_kept : (m : List (K × A)) → find p m ≡ first_of (keep p m)
   unfolding find keep
   find_kept [] = refl
-  find_kept (a ∷ l) = elim (p a) as (λ t. cond t (some a) (find p l) ≡ first_of (cond t (a ∷ keep p l) (keep p l))) [ true ↦ refl | false ↦ find_kept l ]
+  find_kept (a ∷ l) = elim (p a) as (λ t. cond t (Some a) (find p l) ≡ first_of (cond t (a ∷ keep p l) (keep p l))) [ true ↦ refl | false ↦ find_kept l ]
 
-set_is : (z : ℤ) (s : Option ℤ) → is_set z s ≡ true → s ≡ some z
-set_is z none e = not_both false e refl
-set_is z (some y) e = ap some (sym (eq_z_eq z y e))
+set_is : (z : ℤ) (s : Option ℤ) → is_set z s ≡ true → s ≡ Some z
+set_is z None e = not_both false e refl
+set_is z (Some y) e = ap Some (sym (eq_z_eq z y e))
 
-that_same : (z : ℤ) (s : Option ℤ) → same_set s (some z) ≡ is_that z s
+that_same : (z : ℤ) (s : Option ℤ) → same_set s (Some z) ≡ is_that z s
 unfolding numbers
-that_same z none = refl
-that_same z (some y) = same_swap numbers_lawful y z
+that_same z None = refl
+that_same z (Some y) = same_swap numbers_lawful y z
 
 and_true_right : (a : Bool) → a && true ≡ a
 and_true_right true = refl
@@ -177,7 +177,7 @@ module _ {X : Type 0} where
   abbrev is_open_stale : Option ℤ → ℤ × OpenSet X → Bool
   is_open_stale s x = not x.1.end_committed && not (is_that x.0 s)
 
-  shares_set : (g : Guid) (z : ℤ) (h m : Entry X) → of_group g h ≡ true → h.set ≡ some z → shares h m ≡ in_set g z m
+  shares_set : (g : Guid) (z : ℤ) (h m : Entry X) → of_group g h ≡ true → h.set ≡ Some z → shares h m ≡ in_set g z m
   unfolding shares in_set of_group
   shares_set g z h m o d = ap (λ k. same_guid k m.group && same_set h.set m.set) (sym (same_eq g h.group o)) ∙ ap (λ s. same_guid g m.group && same_set s m.set) d
 
@@ -192,9 +192,9 @@ module _ {X : Type 0} where
 
   any_set : (g : Guid) (z : ℤ) (b : Bool) (u : Option (OpenSet X)) (l : List (Entry X)) → SetLike u l → any (λ h. true) l && (not (any (λ m. marks m) l) && b) ≡ is_some_and (λ s. not s.end_committed && b) u
   unfolding any
-  any_set g z b none [] closed = refl
-  any_set g z b (some s) l (opened a k) = ap (λ c. c && (not (any (λ m. marks m) l) && b)) a ∙ ap (λ c. not c && b) (sym k.ended)
-  any_set g z b none (_ ∷ _) x4 = elim x4 [ ]
+  any_set g z b None [] closed = refl
+  any_set g z b (Some s) l (opened a k) = ap (λ c. c && (not (any (λ m. marks m) l) && b)) a ∙ ap (λ c. not c && b) (sym k.ended)
+  any_set g z b None (_ ∷ _) x4 = elim x4 [ ]
 
   any_kept_true : (q : Entry X → Bool) (l : List (Entry X)) → any q l ≡ any (λ h. true) (keep q l)
   any_kept_true q l = any_ext q (λ h. q h && true) (λ h. sym (and_true_right (q h))) l ∙ sym (any_keep (λ h. true) q l)
@@ -221,7 +221,7 @@ module _ {X : Type 0} where
   unfolding stale as_entry
   stale_keys e m = refl
 
-  shorter : (g : Guid) (e : Entry X) (w : Work X) (z : ℤ) (k : ℕ) → of_group g e ≡ true → lowest_stale e w.held ≡ some z → length w.held ≤ suc k → length (discard g z w).held ≤ k
+  shorter : (g : Guid) (e : Entry X) (w : Work X) (z : ℤ) (k : ℕ) → of_group g e ≡ true → lowest_stale e w.held ≡ Some z → length w.held ≤ suc k → length (discard g z w).held ≤ k
   unfolding discard of_group
   shorter g e w z k o d h =
       let q : e.group ≡ g = sym (same_eq g e.group o) in
@@ -229,7 +229,7 @@ module _ {X : Type 0} where
       (any_imp (λ x. in_set e.group z x && is_stale e w.held x) (λ x. in_set g z x) (λ x p. ap (λ y. in_set y z x) (sym q) ∙ and_left (in_set e.group z x) _ p) w.held (stale_there e w.held z d)) in
       omega arith
 
-  not_empty : (g : Guid) (e : Entry X) (l : List (Entry X)) (z : ℤ) → lowest_stale e l ≡ some z → length l ≤ 0 → ⊥
+  not_empty : (g : Guid) (e : Entry X) (l : List (Entry X)) (z : ℤ) → lowest_stale e l ≡ Some z → length l ≤ 0 → ⊥
   unfolding lowest_stale lowest_set keep
   not_empty g e [] z d h = none_some z d
   not_empty g e (x ∷ l) z d h = omega arith
@@ -245,12 +245,12 @@ module _ {X : Type 0} where
     first_stale : (lp : Loop X) (w : Work X) → LoopLike g ws a lp w → lowest_stale e w.held ≡ key_of (first_of (keep (λ x. test x) lp.group.sets))
     first_stale lp w l = sym (stale_found g e lp.group.sets w.held o l.sets) ∙ ap key_of (find_kept numbers_lawful (λ x. test x) lp.group.sets)
 
-    no_more : (k : ℕ) (w : Work X) → lowest_stale e w.held ≡ none → discard_stale k e w ≡ w
+    no_more : (k : ℕ) (w : Work X) → lowest_stale e w.held ≡ None → discard_stale k e w ≡ w
     unfolding discard_stale
     no_more zero w d = refl
     no_more (suc k) w d = ap (λ u. discard_or (λ v. discard_stale k e v) e.group w u) d
 
-    one_more : (k : ℕ) (w : Work X) (z : ℤ) → lowest_stale e w.held ≡ some z → discard_stale (suc k) e w ≡ discard_stale k e (discard g z w)
+    one_more : (k : ℕ) (w : Work X) (z : ℤ) → lowest_stale e w.held ≡ Some z → discard_stale (suc k) e w ≡ discard_stale k e (discard g z w)
     unfolding discard_stale of_group
     one_more k w z d = ap (λ u. discard_or (λ v. discard_stale k e v) e.group w u) d ∙ ap (λ y. discard_stale k e (discard y z w)) (sym (same_eq g e.group o))
 
@@ -259,15 +259,15 @@ module _ {X : Type 0} where
         subst (λ (v : Work X). LoopLike g ws a (drop_all (stale (as_entry e) lp.group.sets) lp) v) (sym (no_more k w (first_stale lp w l ∙ ap (λ q. key_of (first_of q)) d)))
         (subst (λ (m : Loop X). LoopLike g ws a m w) (sym (drop_none lp (stale_keys e lp.group.sets ∙ ap (λ q. map (λ x. x.0) q) d))) l)
 
-    drop_step : (lp : Loop X) (x : ℤ × OpenSet X) (r : List (ℤ × OpenSet X)) → ascends numbers lp.group.sets ≡ true → get numbers x.0 lp.group.sets ≡ some x.1 → keep (λ x. test x) lp.group.sets ≡ x ∷ r
-        → drop_all (stale (as_entry e) lp.group.sets) lp ≡ drop_all (stale (as_entry e) (drop_if x.0 lp (some x.1)).group.sets) (drop_if x.0 lp (some x.1))
+    drop_step : (lp : Loop X) (x : ℤ × OpenSet X) (r : List (ℤ × OpenSet X)) → ascends numbers lp.group.sets ≡ true → get numbers x.0 lp.group.sets ≡ Some x.1 → keep (λ x. test x) lp.group.sets ≡ x ∷ r
+        → drop_all (stale (as_entry e) lp.group.sets) lp ≡ drop_all (stale (as_entry e) (drop_if x.0 lp (Some x.1)).group.sets) (drop_if x.0 lp (Some x.1))
     unfolding drop_all with_sets
     drop_step lp x r b c d =
         ap (λ q. drop_all q lp) (stale_keys e lp.group.sets ∙ ap (λ q. map (λ x. x.0) q) d)
         ∙ ap (λ u. drop_all (map (λ x. x.0) r) (drop_if x.0 lp u)) c
-        ∙ ap (λ q. drop_all q (drop_if x.0 lp (some x.1))) (sym (stale_keys e (remove numbers x.0 lp.group.sets) ∙ ap (λ q. map (λ x. x.0) q) (keep_removed numbers_lawful (λ x. test x) lp.group.sets x r b d)))
+        ∙ ap (λ q. drop_all q (drop_if x.0 lp (Some x.1))) (sym (stale_keys e (remove numbers x.0 lp.group.sets) ∙ ap (λ q. map (λ x. x.0) q) (keep_removed numbers_lawful (λ x. test x) lp.group.sets x r b d)))
 
-    stale_head : (lp : Loop X) (w : Work X) (x : ℤ × OpenSet X) (r : List (ℤ × OpenSet X)) → LoopLike g ws a lp w → keep (λ x. test x) lp.group.sets ≡ x ∷ r → get numbers x.0 lp.group.sets ≡ some x.1
+    stale_head : (lp : Loop X) (w : Work X) (x : ℤ × OpenSet X) (r : List (ℤ × OpenSet X)) → LoopLike g ws a lp w → keep (λ x. test x) lp.group.sets ≡ x ∷ r → get numbers x.0 lp.group.sets ≡ Some x.1
     stale_head lp w x r l d = (passes_own numbers_lawful (λ x. test x) lp.group.sets x l.sets.ascend (find_kept numbers_lawful (λ x. test x) lp.group.sets ∙ ap first_of d)).0
 
     pub stale_like : (k : ℕ) (lp : Loop X) (w : Work X) → length w.held ≤ k → LoopLike g ws a lp w → LoopLike g ws a (drop_all (stale (as_entry e) lp.group.sets) lp) (discard_stale k e w)
@@ -280,11 +280,11 @@ module _ {X : Type 0} where
         (elim (keep (λ x. test x) lp.group.sets) as (λ q. keep (λ x. test x) lp.group.sets ≡ q → LoopLike g ws a (drop_all (stale (as_entry e) lp.group.sets) lp) (discard_stale (suc k) e w)) [
           | [] ↦ λ d. stale_none (suc k) lp w d l
           | x ∷ r ↦ λ d.
-              let f : lowest_stale e w.held ≡ some x.0 = first_stale lp w l ∙ ap (λ q. key_of (first_of q)) d in
-              let c : get numbers x.0 lp.group.sets ≡ some x.1 = stale_head lp w x r l d in
+              let f : lowest_stale e w.held ≡ Some x.0 = first_stale lp w l ∙ ap (λ q. key_of (first_of q)) d in
+              let c : get numbers x.0 lp.group.sets ≡ Some x.1 = stale_head lp w x r l d in
               subst (λ (v : Work X). LoopLike g ws a (drop_all (stale (as_entry e) lp.group.sets) lp) v) (sym (one_more k w x.0 f))
               (subst (λ (m : Loop X). LoopLike g ws a m (discard_stale k e (discard g x.0 w))) (sym (drop_step lp x r l.sets.ascend c d))
-              (stale_like k (drop_if x.0 lp (some x.1)) (discard g x.0 w) (shorter g e w x.0 k o f h) (drop_like g ws a x.0 x.1 lp w c l)))
+              (stale_like k (drop_if x.0 lp (Some x.1)) (discard g x.0 w) (shorter g e w x.0 k o f h) (drop_like g ws a x.0 x.1 lp w c l)))
         ]) refl
 
 -- ---- commits
@@ -294,8 +294,8 @@ or_true true c h = refl
 or_true false c h = sym h
 
 item_append : {X : Type 0} (o : Option X) (r : ℕ) (l m : List (ℕ × X)) → item_of o r (l ++ m) ≡ item_of o r l ++ m
-item_append none r l m = refl
-item_append (some i) r l m = refl
+item_append None r l m = refl
+item_append (Some i) r l m = refl
 
 pub handed_append : {X : Type 0} (l m : List (Entry X)) → handed (l ++ m) ≡ handed l ++ handed m
 unfolding handed
@@ -307,19 +307,19 @@ module _ {X : Type 0} where
   unfolding handed
   handed_one e i d = ap (λ w. item_of (item_w w) e.reader []) d
 
-  sample_item : (e : Entry X) (i : X) → e.what ≡ sample i → (as_entry e).item ≡ some i
+  sample_item : (e : Entry X) (i : X) → e.what ≡ sample i → (as_entry e).item ≡ Some i
   unfolding as_entry
   sample_item e i d = ap item_w d
 
-  end_item : (e : Entry X) (f o : Option ℤ) → e.what ≡ set_end f o → (as_entry e).item ≡ none
+  end_item : (e : Entry X) (f o : Option ℤ) → e.what ≡ set_end f o → (as_entry e).item ≡ None
   unfolding as_entry
   end_item e f o d = ap item_w d
 
-  sample_end : (e : Entry X) (i : X) → e.what ≡ sample i → (as_entry e).at_end ≡ none
+  sample_end : (e : Entry X) (i : X) → e.what ≡ sample i → (as_entry e).at_end ≡ None
   unfolding as_entry
   sample_end e i d = ap end_w d
 
-  end_end : (e : Entry X) (f o : Option ℤ) → e.what ≡ set_end f o → (as_entry e).at_end ≡ some (record { first_sn = f; ecs_sn = o })
+  end_end : (e : Entry X) (f o : Option ℤ) → e.what ≡ set_end f o → (as_entry e).at_end ≡ Some (record { first_sn = f; ecs_sn = o })
   unfolding as_entry
   end_end e f o d = ap end_w d
 
@@ -335,11 +335,11 @@ module _ {X : Type 0} where
   unfolding is_some marks
   mark_there e l =
       (elim (find (λ m. shares e m && marks m) l) as (λ u. find (λ m. shares e m && marks m) l ≡ u → is_some (mark_or e.time u) ≡ true) [
-        | none ↦ λ d. refl
-        | some m ↦ λ d. and_right (shares e m) _ (find_test (λ m. shares e m && marks m) l m d)
+        | None ↦ λ d. refl
+        | Some m ↦ λ d. and_right (shares e m) _ (find_test (λ m. shares e m && marks m) l m d)
       ]) refl
 
-  taken_end : (e : Entry X) (x : SetEnd) (s : OpenSet X) → take_in (as_entry e) (some x) s ≡ keeping true e x s
+  taken_end : (e : Entry X) (x : SetEnd) (s : OpenSet X) → take_in (as_entry e) (Some x) s ≡ keeping true e x s
   unfolding ended with_end keeping as_entry
   taken_end e x s = refl
 
@@ -347,7 +347,7 @@ module _ {X : Type 0} where
   unfolding marked
   set_blind m e = refl
 
-  set_there : (e : Entry X) (z : ℤ) → e.set ≡ some z → is_some e.set ≡ true
+  set_there : (e : Entry X) (z : ℤ) → e.set ≡ Some z → is_some e.set ≡ true
   unfolding is_some
   set_there e z d = ap (λ s. is_some s) d
 
@@ -358,7 +358,7 @@ module _ {X : Type 0} where
   module _ (g : Guid) (ws : List Writer) (a : ℕ) (e : Entry X) (o : of_group g e ≡ true) (fr : is_fresh e ≡ true) where
     settle_case : (x : What X) (s : Option ℤ) (lp : Loop X) (w : Work X) → e.what ≡ x → e.set ≡ s → LoopLike g ws a lp w → LoopLike g ws a (commit_to s (as_entry e) lp) (settle e w x s)
     unfolding with_out with_held with_sets entry
-    settle_case (sample i) none lp w d c l = record {
+    settle_case (sample i) None lp w d c l = record {
       committed = l.committed;
       announced = l.announced;
       writers = l.writers;
@@ -369,7 +369,7 @@ module _ {X : Type 0} where
       out = ap (λ u. push_item (as_entry e).reader u lp.out) (sample_item e i d) ∙ ap (λ r. lp.out ++ ((r, i) ∷ [])) (as_reader e) ∙ ap (λ r. r ++ ((e.reader, i) ∷ [])) l.out ∙ sym (handed_append w.out (e ∷ []) ∙ ap (λ r. handed w.out ++ r) (handed_one e i d));
       counts = l.counts;
     }
-    settle_case (sample i) (some z) lp w d c l = record {
+    settle_case (sample i) (Some z) lp w d c l = record {
       committed = l.committed;
       announced = l.announced;
       writers = l.writers;
@@ -380,7 +380,7 @@ module _ {X : Type 0} where
       out = l.out;
       counts = l.counts;
     }
-    settle_case (set_end f p) none lp w d c l = record {
+    settle_case (set_end f p) None lp w d c l = record {
       committed = l.committed;
       announced = l.announced;
       writers = l.writers;
@@ -391,7 +391,7 @@ module _ {X : Type 0} where
       out = ap (λ u. push_item (as_entry e).reader u lp.out) (end_item e f p d) ∙ l.out;
       counts = l.counts;
     }
-    settle_case (set_end f p) (some z) lp w d c l =
+    settle_case (set_end f p) (Some z) lp w d c l =
         let mk : Option ℕ = mark_or e.time (find (λ m. shares e m && marks m) w.held) in
         let x : SetEnd = record { first_sn = f; ecs_sn = p } in
         record {

@@ -3,7 +3,7 @@ use Prim.Native.Nat.{ℕ, suc, ◌+◌}
 use mathlib.Core.Path.{◌≡◌, refl, sym, ap, ◌∙◌, subst}
 use mathlib.Core.Bool.{Bool, true, false, ◌&&◌, not}
 use mathlib.Core.List.{List, [], ◌∷◌, map}
-use mathlib.Core.Option.{Option, some}
+use Rattle.std.specs.Prelude.{Option, Some}
 use native.Mathlib.Omega.{arith}
 use lib.IntN.{ℤ}
 use lib.Dec.{eqb}
@@ -25,7 +25,7 @@ use Rattle.source_model.proofs.Figures.{pending_count, members_held, always, sum
 
 -- what holds of all values that the keys find, holds of the map
 module _ {K A : Type 0} {o : Order K} (lo : Lawful o) where
-  pub all_found : (p q : K × A → Bool) (m : List (K × A)) → ascends o m ≡ true → ((x : K × A) → get o x.0 m ≡ some x.1 → p x ≡ q x) → all p m ≡ all q m
+  pub all_found : (p q : K × A → Bool) (m : List (K × A)) → ascends o m ≡ true → ((x : K × A) → get o x.0 m ≡ Some x.1 → p x ≡ q x) → all p m ≡ all q m
   unfolding all ascends
   all_found p q [] a h = refl
   all_found p q (x ∷ m) a h =
@@ -42,7 +42,7 @@ zero_sum f (a ∷ l) =
       | false ↦ λ e. ne_eqb (f a + sum_of f l) 0 (λ q. eqb-false (f a) 0 e (omega (arith, q)))
     ]) refl
 
-never_empty : {A : Type 0} (l : List A) (v : List A) → vec_of l ≡ some v → eqb (length v) 0 ≡ false
+never_empty : {A : Type 0} (l : List A) (v : List A) → vec_of l ≡ Some v → eqb (length v) 0 ≡ false
 never_empty [] v e = none_some v e
 never_empty (a ∷ l) v e = let q : a ∷ l ≡ v = cc in ap (λ r. eqb (length r) 0) (sym q) ∙ ne_eqb (suc (length l)) 0 (λ d. omega (arith, d))
 
@@ -67,7 +67,7 @@ module _ {X : Type 0} where
       ]) refl
 
 module _ {X : Type 0} (o : GroupOrder X) (s : State X) (l : Like o s) where
-  own_pending : (x : Guid × S.Group X) → get guids x.0 o.groups ≡ some x.1 → PendingLike x.0 x.1.pending s.pending
+  own_pending : (x : Guid × S.Group X) → get guids x.0 o.groups ≡ Some x.1 → PendingLike x.0 x.1.pending s.pending
   own_pending x d = subst (λ (u : Option (S.Group X)). PendingLike x.0 (or_default no_group u).pending s.pending) d (l.each x.0).pending
 
   pub empty_same : nothing_waits s ≡ is_empty o

@@ -3,7 +3,7 @@ use Prim.Native.Nat.{ℕ, ◌+◌}
 use mathlib.Core.Path.{◌≡◌, refl, sym, ap, ◌∙◌}
 use mathlib.Core.Bool.{Bool, true, false, ◌&&◌, ◌||◌, not, cond}
 use mathlib.Core.List.{List, [], ◌∷◌, map}
-use mathlib.Core.Option.{Option, some, none}
+use Rattle.std.specs.Prelude.{Option, Some, None}
 use native.Mathlib.Omega.{arith}
 use lib.IntN.{ℤ, pos}
 use lib.Dec.{leb, eqb}
@@ -70,7 +70,7 @@ module _ {X : Type 0} where
   pub known_group : (g : Guid) (m : List (Guid × S.Group X)) → knows_group g (map (λ x. flat x) m) ≡ is_some (get guids g m)
   unfolding knows_group is_group flat any get is_some guids
   known_group g [] = refl
-  known_group g (x ∷ m) = ap (λ b. same_guid g x.0 || b) (known_group g m) ∙ (elim (same_guid g x.0) as (λ t. t || is_some (get guids g m) ≡ is_some (cond t (some x.1) (get guids g m))) [ true ↦ refl | false ↦ refl ])
+  known_group g (x ∷ m) = ap (λ b. same_guid g x.0 || b) (known_group g m) ∙ (elim (same_guid g x.0) as (λ t. t || is_some (get guids g m) ≡ is_some (cond t (Some x.1) (get guids g m))) [ true ↦ refl | false ↦ refl ])
 
   -- a count over the entries or writers of each group
   pub over_groups : {B : Type 0} (m : List (Guid × S.Group X)) (of : B → Guid) (q : B → Bool) (len : S.Group X → ℕ) (l : List B) → ascends guids m ≡ true → len no_group ≡ 0
@@ -79,15 +79,15 @@ module _ {X : Type 0} where
   unfolding guids
   over_groups m of q len l a z h =
       count_over guids_lawful (λ g b. same_guid g (of b)) of q len (λ b e. same_refl (of b)) (λ k j b c d. ap (λ y. same_guid k y) (same_eq j (of b) d) ∙ c) m l a
-      (λ g. h g ∙ (elim (get guids g m) as (λ u. len (or_default no_group u) ≡ len_o len u) [ none ↦ z | some y ↦ refl ]))
+      (λ g. h g ∙ (elim (get guids g m) as (λ u. len (or_default no_group u) ≡ len_o len u) [ None ↦ z | Some y ↦ refl ]))
 
 writer_case : (u : Option Progress) (l : List Writer) → WriterLike u l → is_some u ≡ is_some (first_of l)
 unfolding is_some
-writer_case none [] unknown = refl
-writer_case (some p) (w ∷ []) (known k) = refl
-writer_case none (w ∷ _) x3 = elim x3 [ ]
-writer_case (some p) [] x3 = elim x3 [ ]
-writer_case (some p) (w ∷ (_ ∷ _)) x8 = elim x8 [ ]
+writer_case None [] unknown = refl
+writer_case (Some p) (w ∷ []) (known k) = refl
+writer_case None (w ∷ _) x3 = elim x3 [ ]
+writer_case (Some p) [] x3 = elim x3 [ ]
+writer_case (Some p) (w ∷ (_ ∷ _)) x8 = elim x8 [ ]
 
 pub known_writer : (g w : Guid) (m : List (Guid × Progress)) (ws : List Writer) → WritersLike g m ws → knows_writer g w ws ≡ is_some (get guids w m)
 unfolding knows_writer
@@ -96,11 +96,11 @@ known_writer g w m ws k =
 
 one_writer : (g w : Guid) (u : Option Progress) (l : List Writer) → WriterLike u l → all (λ x. is_writer g w x) l ≡ true → count (λ x. same_guid g x.group) l ≡ len_o (λ p. 1) u
 unfolding all
-one_writer g w none [] unknown e = count_nil (λ x. same_guid g x.group)
-one_writer g w (some p) (x ∷ []) (known k) e = count_one (λ x. same_guid g x.group) x ∙ ap (λ b. cond b 1 0) (group_of g w x (and_left (is_writer g w x) _ e))
-one_writer g w none (x ∷ _) x6 e = elim x6 [ ]
-one_writer g w (some p) [] x4 e = elim x4 [ ]
-one_writer g w (some p) (x ∷ (_ ∷ _)) x10 e = elim x10 [ ]
+one_writer g w None [] unknown e = count_nil (λ x. same_guid g x.group)
+one_writer g w (Some p) (x ∷ []) (known k) e = count_one (λ x. same_guid g x.group) x ∙ ap (λ b. cond b 1 0) (group_of g w x (and_left (is_writer g w x) _ e))
+one_writer g w None (x ∷ _) x6 e = elim x6 [ ]
+one_writer g w (Some p) [] x4 e = elim x4 [ ]
+one_writer g w (Some p) (x ∷ (_ ∷ _)) x10 e = elim x10 [ ]
 
 group_writers : (g : Guid) (m : List (Guid × Progress)) (ws : List Writer) → WritersLike g m ws → count (λ x. true) (keep (λ x. same_guid g x.group) ws) ≡ length m
 unfolding guids
@@ -155,10 +155,10 @@ module _ {X : Type 0} where
 
   set_own : (h : Entry X) (b : Bool) → is_some h.set && b ≡ true → is_set (or_default (pos 0) h.set) h.set ≡ true
   unfolding is_some
-  set_own h b e = (elim h.set as (λ s. is_some s && b ≡ true → is_set (or_default (pos 0) s) s ≡ true) [ none ↦ λ d. not_both false d refl | some z ↦ λ d. eq_z_refl z ]) e
+  set_own h b e = (elim h.set as (λ s. is_some s && b ≡ true → is_set (or_default (pos 0) s) s ≡ true) [ None ↦ λ d. not_both false d refl | Some z ↦ λ d. eq_z_refl z ]) e
 
   set_once : (k j : ℤ) (h : Entry X) → is_set k h.set ≡ true → is_set j h.set ≡ true → eq_z k j ≡ true
-  set_once k j h c d = (elim h.set as (λ s. is_set k s ≡ true → is_set j s ≡ true → eq_z k j ≡ true) [ none ↦ λ c d. not_both false c refl | some z ↦ λ c d. ap (λ y. eq_z k y) (eq_z_eq j z d) ∙ c ]) c d
+  set_once k j h c d = (elim h.set as (λ s. is_set k s ≡ true → is_set j s ≡ true → eq_z k j ≡ true) [ None ↦ λ c d. not_both false c refl | Some z ↦ λ c d. ap (λ y. eq_z k y) (eq_z_eq j z d) ∙ c ]) c d
 
   -- a figure of the held entries, set by set
   group_held : (q : Entry X → Bool) (len : OpenSet X → ℕ) → ((t : OpenSet X) (l : List (Entry X)) → OpenLike t l → count q l ≡ len t)
@@ -171,26 +171,26 @@ module _ {X : Type 0} where
       (λ z. ap (λ r. count (λ h. is_some h.set && q h) r) (in_of g z l) ∙ count_under (λ h. is_some h.set) q (keep (λ h. in_set g z h) l) (all_keep (λ h. is_some h.set) (λ h. in_set g z h) l a) ∙ held_case (get numbers z m) (keep (λ h. in_set g z h) l) (k.at z))
     where
       held_case : (u : Option (OpenSet X)) (r : List (Entry X)) → SetLike u r → count q r ≡ len_o len u
-      held_case none [] closed = count_nil q
-      held_case (some t) r (opened b k) = f t r k
-      held_case none (_ ∷ _) x4 = elim x4 [ ]
+      held_case None [] closed = count_nil q
+      held_case (Some t) r (opened b k) = f t r k
+      held_case None (_ ∷ _) x4 = elim x4 [ ]
 
   member_count : (q : Entry X → Bool) (qm : S.Entry X → Bool) → ((e : Entry X) → qm (as_entry e) ≡ q e) → (t : OpenSet X) (l : List (Entry X)) → OpenLike t l → count (λ h. is_sample h && q h) l ≡ count qm t.members
   member_count q qm h t l k =
       sym (count_keep_in (λ h. is_sample h) q l)
       ∙ sym (ap (λ r. count qm r) k.members ∙ count_map qm (λ e. as_entry e) (keep (λ h. is_sample h) l) ∙ count_ext (λ e. qm (as_entry e)) q h (keep (λ h. is_sample h) l))
 
-  end_not_sample : (w : What X) (x : SetEnd) → end_w w ≡ some x → not (is_sample_w w) ≡ true
+  end_not_sample : (w : What X) (x : SetEnd) → end_w w ≡ Some x → not (is_sample_w w) ≡ true
   end_not_sample (sample i) x d = none_some x d
   end_not_sample (set_end f p) x d = refl
 
   end_one : (u : Option SetEnd) (l : List (Entry X)) → EndLike u l → count (λ h. not (is_sample h)) l ≡ len_o (λ x. 1) u
   unfolding is_sample
-  end_one none [] no_end = count_nil (λ h. not (is_sample h))
-  end_one (some x) (e ∷ []) (one_end d) = count_one (λ h. not (is_sample h)) e ∙ ap (λ b. cond b 1 0) (end_not_sample e.what x d)
-  end_one none (e ∷ _) x3 = elim x3 [ ]
-  end_one (some x) [] x4 = elim x4 [ ]
-  end_one (some x) (e ∷ (_ ∷ _)) x9 = elim x9 [ ]
+  end_one None [] no_end = count_nil (λ h. not (is_sample h))
+  end_one (Some x) (e ∷ []) (one_end d) = count_one (λ h. not (is_sample h)) e ∙ ap (λ b. cond b 1 0) (end_not_sample e.what x d)
+  end_one None (e ∷ _) x3 = elim x3 [ ]
+  end_one (Some x) [] x4 = elim x4 [ ]
+  end_one (Some x) (e ∷ (_ ∷ _)) x9 = elim x9 [ ]
 
   pair_own : (h : Entry X) → not (is_sample h) ≡ true → is_pair_end (h.writer, h.reader) h ≡ true
   unfolding is_pair_end of_pair

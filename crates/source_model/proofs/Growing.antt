@@ -3,7 +3,7 @@ use Prim.Native.Nat.{ℕ, zero, suc, ◌^◌, ◌≤◌}
 use mathlib.Core.Path.{◌≡◌}
 use mathlib.Core.Bool.{Bool, true, false, ◌&&◌, not}
 use mathlib.Core.List.{List, [], ◌∷◌, ◌++◌}
-use mathlib.Core.Option.{Option, some, none}
+use Rattle.std.specs.Prelude.{Option, Some, None}
 use native.Mathlib.Omega.{arith}
 use lib.IntN.{ℤ, pos, ◌+ℤ◌, ◌-ℤ◌}
 use lib.Dec.{ltb}
@@ -51,8 +51,8 @@ grows_skip k c = record { skipped = omega arith; incomplete = omega arith; disca
 
 module _ {I : Type 0} where
   drop_grows : (z : ℤ) (l : Loop I) (u : Option (OpenSet I)) → Grows l.counts (drop_if z l u).counts
-  drop_grows z l none = same l.counts
-  drop_grows z l (some s) = grows_discard (length s.members) l.counts
+  drop_grows z l None = same l.counts
+  drop_grows z l (Some s) = grows_discard (length s.members) l.counts
 
   drops_grow : (zs : List ℤ) (l : Loop I) → Grows l.counts (drop_all zs l).counts
   unfolding drop_all
@@ -62,8 +62,8 @@ module _ {I : Type 0} where
       then l.counts m.counts (drop_all zs m).counts (drop_grows z l (get numbers z l.group.sets)) (drops_grow zs m)
 
   commit_same : (z : Option ℤ) (e : Entry I) (l : Loop I) → Grows l.counts (commit_to z e l).counts
-  commit_same none e l = same l.counts
-  commit_same (some z) e l = same l.counts
+  commit_same None e l = same l.counts
+  commit_same (Some z) e l = same l.counts
 
   commits_grow : (es : List (Entry I)) (l : Loop I) → Grows l.counts (commit_each es l).counts
   unfolding commit_each commit
@@ -79,8 +79,8 @@ module _ {I : Type 0} where
   next_grows n k l = then l.counts (taken n k l).counts (take_next n k l).counts (grows_skip k l.counts) (commits_grow (or_default [] (get numbers n l.group.pending)) (taken n k l))
 
   unfoldable pub GrowsTo : Loop I → Option (Loop I) → Type 0
-  GrowsTo l none = Grows l.counts l.counts
-  GrowsTo l (some m) = Grows l.counts m.counts
+  GrowsTo l None = Grows l.counts l.counts
+  GrowsTo l (Some m) = Grows l.counts m.counts
 
   take_grows : (r y : Bool) (n : ℤ) (k : ℕ) (l : Loop I) → GrowsTo l (take_if r y n k l)
   unfolding GrowsTo
@@ -94,8 +94,8 @@ module _ {I : Type 0} where
 
   module _ (key : Guid) (view : GroupView) (now timeout : ℕ) where
     head_grows : (l : Loop I) (u : Option (ℤ × List (Entry I))) → GrowsTo l (at_head key view now timeout l u)
-    head_grows l none = unfold GrowsTo in same l.counts
-    head_grows l (some x) =
+    head_grows l None = unfold GrowsTo in same l.counts
+    head_grows l (Some x) =
         take_grows (is_ready key view now timeout l.group (l.group.committed +ℤ pos 1) x.0) (ltb (waited now (first_of (or_default [] (get numbers x.0 l.group.pending)))) timeout)
         x.0 (as_u64 (x.0 -ℤ (l.group.committed +ℤ pos 1))) l
 
@@ -105,10 +105,10 @@ module _ {I : Type 0} where
     finish_grows false z s l = finish_if_grows (complete s (view.counted key) (all_ends key view now timeout s)) s (record { group = with_sets (remove numbers z l.group.sets) l.group; out = l.out; counts = l.counts })
 
     at_grows : (l : Loop I) (u : Option (ℤ × OpenSet I)) → GrowsTo l (at_ended key view now timeout l u)
-    at_grows l (some x) =
+    at_grows l (Some x) =
         let s : OpenSet I = or_default no_set (get numbers x.0 l.group.sets) in
         finish_grows (not (all_ends key view now timeout s) && ltb (waited now (first_of s.members)) timeout) x.0 s l
-    at_grows l none = head_grows l (first_of l.group.pending)
+    at_grows l None = head_grows l (first_of l.group.pending)
 
     pub turn_grows : (l : Loop I) → GrowsTo l (turn key view now timeout l)
     unfolding turn
@@ -120,7 +120,7 @@ module _ {I : Type 0} where
     pub loop_grows : (k : ℕ) (l : Loop I) → Grows l.counts (release_group key view now timeout k l).counts
     unfolding release_group GrowsTo
     loop_grows zero l = same l.counts
-    loop_grows (suc k) l = (elim (turn key view now timeout l) as (λ u. GrowsTo l u → Grows l.counts (or_return key view now timeout (λ m. release_group key view now timeout k m) l u).counts) [ none ↦ λ g. g | some m ↦ λ g. goes_grow k l m g (loop_grows k m) ]) (turn_grows l)
+    loop_grows (suc k) l = (elim (turn key view now timeout l) as (λ u. GrowsTo l u → Grows l.counts (or_return key view now timeout (λ m. release_group key view now timeout k m) l u).counts) [ None ↦ λ g. g | Some m ↦ λ g. goes_grow k l m g (loop_grows k m) ]) (turn_grows l)
 
   pub each_grows : (turns : ℕ) (view : GroupView) (now timeout : ℕ) (gs : List (Guid × Group I)) (out : List (ℕ × I)) (c : ReleaseCounts) → Grows c (release_each turns view now timeout gs out c).1.1
   unfolding release_each
@@ -137,17 +137,17 @@ module _ {I : Type 0} where
 module _ {X : Type 0} where
   offer_grows : (u : Option ℕ) (o : GroupOrder X) (x : Offer X) → Grows o.counts (offer_unless u o x).1.counts
   unfolding offer offer_entry
-  offer_grows (some n) o x = same o.counts
-  offer_grows none o x = did_grows (offer_does o x.group (record { reader = x.reader; writer = x.writer; info = group_info x; at_end = end_w x.what; item = item_w x.what; offered_at = x.time }) (group_info x).writer_set) o.counts
+  offer_grows (Some n) o x = same o.counts
+  offer_grows None o x = did_grows (offer_does o x.group (record { reader = x.reader; writer = x.writer; info = group_info x; at_end = end_w x.what; item = item_w x.what; offered_at = x.time }) (group_info x).writer_set) o.counts
 
   done_grows : (u : Option ℕ) (o p : GroupOrder X) → Grows o.counts p.counts → Grows o.counts (done_unless u o p).1.counts
-  done_grows (some n) o p g = same o.counts
-  done_grows none o p g = g
+  done_grows (Some n) o p g = same o.counts
+  done_grows None o p g = g
 
   release_grows : (u : Option ℕ) (turns : ℕ) (o : GroupOrder X) (v : View) (now : ℕ) → Grows o.counts (release_unless u turns o v now).1.counts
   unfolding release
-  release_grows (some n) turns o v now = same o.counts
-  release_grows none turns o v now = each_grows turns (view_of v) now o.timeout o.groups [] o.counts
+  release_grows (Some n) turns o v now = same o.counts
+  release_grows None turns o v now = each_grows turns (view_of v) now o.timeout o.groups [] o.counts
 
   pub step_grows : (turns : ℕ) (o : GroupOrder X) (c : Call X) → Grows o.counts (step turns o c).1.counts
   unfolding step heartbeat gap

@@ -3,7 +3,7 @@ use Prim.Native.Nat.{ℕ, zero, suc, max, ◌<◌}
 use mathlib.Core.Path.{◌≡◌, refl, sym, ap, ◌∙◌}
 use mathlib.Core.Bool.{Bool, true, false, ◌&&◌, not, cond}
 use mathlib.Core.List.{List, [], ◌∷◌, ◌++◌, map}
-use mathlib.Core.Option.{Option, some, none}
+use Rattle.std.specs.Prelude.{Option, Some, None}
 use native.Mathlib.Omega.{arith}
 use lib.IntN.{ℤ, pos}
 use lib.Signed.{lt_z, le_z}
@@ -30,18 +30,18 @@ use Rattle.source_model.proofs.Like.{ProgressLike, WriterLike, unknown, known, W
 -- ---- what is past
 
 above_nothing : (n : ℕ) (o : Option ℤ) → is_some_and (λ s. lt_z (pos n) s) o ≡ lt_z (pos n) (or_default (pos 0) o)
-above_nothing n none = sym (le-ltb n 0 (omega arith))
-above_nothing n (some s) = refl
+above_nothing n None = sym (le-ltb n 0 (omega arith))
+above_nothing n (Some s) = refl
 
 to_nothing : (n : ℕ) (o : Option ℤ) → is_some_and (λ s. le_z (pos (suc n)) s) o ≡ le_z (pos (suc n)) (or_default (pos 0) o)
-to_nothing n none = sym (lt-leb (suc n) 0 (omega arith))
-to_nothing n (some s) = refl
+to_nothing n None = sym (lt-leb (suc n) 0 (omega arith))
+to_nothing n (Some s) = refl
 
 out_of_nothing : (n : ℕ) (o : Option HeartbeatInfo)
     → is_some_and (λ hb. lt_z (pos n) hb.current_gsn && not (le_z hb.first_gsn (pos n) && le_z (pos n) hb.last_gsn)) o
     ≡ lt_z (pos n) (current_in o) && not (le_z (first_in o) (pos n) && le_z (pos n) (last_in o))
-out_of_nothing n none = rw (le-ltb n 0 (omega arith))
-out_of_nothing n (some h) = refl
+out_of_nothing n None = rw (le-ltb n 0 (omega arith))
+out_of_nothing n (Some h) = refl
 
 -- is_past of a number from 1 on
 pub past_alike : (p : Progress) (w : Writer) (r n : ℕ) → ProgressLike p w → is_past p r (pos (suc n)) ≡ past w r (suc n)
@@ -83,7 +83,7 @@ raise_alike : (m : List (ℕ × ℤ)) (l : List ℕ) (i : ℕ) (n : ℤ) → i <
 unfolding entry readers
 raise_alike m l i n d h r =
     rw (get_insert readers_lawful r i (max_z (or_default (pos 0) (get readers i m)) n) m)
-    ((elim (eqb r i) as (λ t. eqb r i ≡ t → number (or_default (pos 0) (cond t (some (max_z (or_default (pos 0) (get readers i m)) n)) (get readers r m))) ≡ get_or (raise l i (number n)) r 0) [
+    ((elim (eqb r i) as (λ t. eqb r i ≡ t → number (or_default (pos 0) (cond t (Some (max_z (or_default (pos 0) (get readers i m)) n)) (get readers r m))) ≡ get_or (raise l i (number n)) r 0) [
       | true ↦ λ e. max_alike (or_default (pos 0) (get readers i m)) n ∙ ap (λ k. max k (number n)) (h i) ∙ sym (raised_at l i (number n) d) ∙ ap (λ k. get_or (raise l i (number n)) k 0) (sym (eqb-true r i e))
       | false ↦ λ e. h r ∙ sym (raised_off l i r (number n) e)
     ]) refl)
@@ -118,8 +118,8 @@ gap_alike r n p w h l = record {
 
 keep_digest : (d a b : Option ℕ) → a ≡ b → S.or_keep d a ≡ or_keep d b
 unfolding or_keep
-keep_digest none a b e = e
-keep_digest (some n) a b e = refl
+keep_digest None a b e = e
+keep_digest (Some n) a b e = refl
 
 pub heard_alike : (h : Heartbeat) (p : Progress) (w : Writer) → ProgressLike p w
     → ProgressLike (heard (info_of h) p) (announced (number h.first) (number h.last) (number h.current) h.digest h.secure w)
@@ -225,18 +225,18 @@ other_group g h w v x d e = ap (λ b. b && same_guid v x.writer) (ap (λ y. same
 
 module _ (g w : Guid) (fm : Progress → Progress) (f : Writer → Writer) (same : (h v : Guid) (x : Writer) → is_writer h v (f x) ≡ is_writer h v x)
     (kept : (p : Progress) (x : Writer) → ProgressLike p x → ProgressLike (fm p) (f x)) where
-  told_like : (o : Option Progress) (l : List Writer) → WriterLike o l → WriterLike (some (fm (or_default no_progress o))) (told_head f (new_writer g w) l)
-  told_like none [] unknown = known (kept no_progress (new_writer g w) (new_alike g w))
-  told_like (some p) (x ∷ []) (known l) = known (kept p x l)
-  told_like none (x ∷ _) x4 = elim x4 [ ]
-  told_like (some p) [] x3 = elim x3 [ ]
-  told_like (some p) (x ∷ (_ ∷ _)) x9 = elim x9 [ ]
+  told_like : (o : Option Progress) (l : List Writer) → WriterLike o l → WriterLike (Some (fm (or_default no_progress o))) (told_head f (new_writer g w) l)
+  told_like None [] unknown = known (kept no_progress (new_writer g w) (new_alike g w))
+  told_like (Some p) (x ∷ []) (known l) = known (kept p x l)
+  told_like None (x ∷ _) x4 = elim x4 [ ]
+  told_like (Some p) [] x3 = elim x3 [ ]
+  told_like (Some p) (x ∷ (_ ∷ _)) x9 = elim x9 [ ]
 
   pub writers_own : (m : List (Guid × Progress)) (l : List Writer) → WritersLike g m l → WritersLike g (entry guids no_progress w fm m) (tell g w f l)
   unfolding entry guids
   writers_own m l k = record {
     at = λ v. rw (get_insert guids_lawful v w (fm (or_default no_progress (get guids w m))) m)
-        ((elim (same_guid v w) as (λ t. same_guid v w ≡ t → WriterLike (cond t (some (fm (or_default no_progress (get guids w m)))) (get guids v m)) (keep (λ x. is_writer g v x) (tell g w f l))) [
+        ((elim (same_guid v w) as (λ t. same_guid v w ≡ t → WriterLike (cond t (Some (fm (or_default no_progress (get guids w m)))) (get guids v m)) (keep (λ x. is_writer g v x) (tell g w f l))) [
           | true ↦ λ e. rw (same_eq v w e, tell_own g w f same l) (told_like (get guids w m) (keep (λ x. is_writer g w x) l) (k.at w))
           | false ↦ λ e. rw (tell_other g w f same g v (λ x d. other_writer g g w v x e d) l) (k.at v)
         ]) refl);

@@ -3,7 +3,7 @@ use Prim.Native.Nat.{ℕ}
 use mathlib.Core.Path.{◌≡◌}
 use mathlib.Core.Bool.{Bool, true, ◌&&◌, not}
 use mathlib.Core.List.{List, [], ◌∷◌, map}
-use mathlib.Core.Option.{Option, some, none}
+use Rattle.std.specs.Prelude.{Option, Some, None}
 use lib.IntN.{ℤ, pos}
 use lib.Dec.{ltb}
 use lib.ListN.{length, get_or}
@@ -31,8 +31,8 @@ offer_entry o = record { reader = o.reader; writer = o.writer; info = record { g
 
 -- a Vec of the map of pending entries: never empty
 abbrev pub vec_of : {A : Type 0} → List A → Option (List A)
-vec_of [] = none
-vec_of (a ∷ l) = some (a ∷ l)
+vec_of [] = None
+vec_of (a ∷ l) = Some (a ∷ l)
 
 module _ {X : Type 0} where
   unfoldable pub is_at : Guid → ℤ → Entry X → Bool
@@ -55,8 +55,8 @@ module _ {X : Type 0} where
 
 -- the kept end of a pair: one at most
 pub data EndLike {X : Type 0} : Option SetEnd → List (Entry X) → Type 0 where
-  no_end : EndLike none []
-  one_end : {x : SetEnd} {e : Entry X} → end_w e.what ≡ some x → EndLike (some x) (e ∷ [])
+  no_end : EndLike None []
+  one_end : {x : SetEnd} {e : Entry X} → end_w e.what ≡ Some x → EndLike (Some x) (e ∷ [])
 
 -- an open set: members, kept ends and the flag
 pub record OpenLike {X : Type 0} (s : OpenSet X) (l : List (Entry X)) : Type 0 where
@@ -67,8 +67,8 @@ pub record OpenLike {X : Type 0} (s : OpenSet X) (l : List (Entry X)) : Type 0 w
 
 -- a set is open exactly when an entry is held in it
 pub data SetLike {X : Type 0} : Option (OpenSet X) → List (Entry X) → Type 0 where
-  closed : SetLike none []
-  opened : {s : OpenSet X} {l : List (Entry X)} → any (λ h. true) l ≡ true → OpenLike s l → SetLike (some s) l
+  closed : SetLike None []
+  opened : {s : OpenSet X} {l : List (Entry X)} → any (λ h. true) l ≡ true → OpenLike s l → SetLike (Some s) l
 
 pub record SetsLike {X : Type 0} (g : Guid) (m : List (ℤ × OpenSet X)) (l : List (Entry X)) : Type 0 where
   pub at : (z : ℤ) → SetLike (get numbers z m) (keep (λ h. in_set g z h) l)
@@ -77,16 +77,16 @@ pub record SetsLike {X : Type 0} (g : Guid) (m : List (ℤ × OpenSet X)) (l : L
 -- ---- writers
 
 abbrev pub first_in : Option HeartbeatInfo → ℤ
-first_in none = pos 0
-first_in (some h) = h.first_gsn
+first_in None = pos 0
+first_in (Some h) = h.first_gsn
 
 abbrev pub last_in : Option HeartbeatInfo → ℤ
-last_in none = pos 0
-last_in (some h) = h.last_gsn
+last_in None = pos 0
+last_in (Some h) = h.last_gsn
 
 abbrev pub current_in : Option HeartbeatInfo → ℤ
-current_in none = pos 0
-current_in (some h) = h.current_gsn
+current_in None = pos 0
+current_in (Some h) = h.current_gsn
 
 pub record ProgressLike (p : Progress) (w : Writer) : Type 0 where
   pub seen : (r : ℕ) → number (or_default (pos 0) (get readers r p.seen)) ≡ get_or w.seen r 0
@@ -100,8 +100,8 @@ pub record ProgressLike (p : Progress) (w : Writer) : Type 0 where
   pub secure : p.secure_writer_set ≡ w.secure
 
 pub data WriterLike : Option Progress → List Writer → Type 0 where
-  unknown : WriterLike none []
-  known : {p : Progress} {w : Writer} → ProgressLike p w → WriterLike (some p) (w ∷ [])
+  unknown : WriterLike None []
+  known : {p : Progress} {w : Writer} → ProgressLike p w → WriterLike (Some p) (w ∷ [])
 
 pub record WritersLike (g : Guid) (m : List (Guid × Progress)) (l : List Writer) : Type 0 where
   pub at : (w : Guid) → WriterLike (get guids w m) (keep (λ x. is_writer g w x) l)

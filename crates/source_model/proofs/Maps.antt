@@ -3,7 +3,7 @@ use Prim.Native.Nat.{ℕ}
 use mathlib.Core.Path.{◌≡◌, refl, sym, ap, ◌∙◌}
 use mathlib.Core.Bool.{Bool, true, false, ◌&&◌, ◌||◌, not, cond}
 use mathlib.Core.List.{List, [], ◌∷◌}
-use mathlib.Core.Option.{Option, some, none}
+use Rattle.std.specs.Prelude.{Option, Some, None}
 use native.Mathlib.Omega.{arith}
 use lib.IntN.{ℤ, pos, negsuc}
 use lib.Signed.{lt_z}
@@ -124,28 +124,28 @@ module _ {K : Type 0} {o : Order K} (lo : Lawful o) where
       ]) refl
 
 module _ {K A : Type 0} {o : Order K} (lo : Lawful o) where
-  pub get_insert : (j k : K) (v : A) (m : List (K × A)) → get o j (insert o k v m) ≡ cond (o.same j k) (some v) (get o j m)
+  pub get_insert : (j k : K) (v : A) (m : List (K × A)) → get o j (insert o k v m) ≡ cond (o.same j k) (Some v) (get o j m)
   unfolding get insert
   get_insert j k v [] = refl
   get_insert j k v (x ∷ m) =
-      (elim (o.same k x.0) as (λ b. o.same k x.0 ≡ b → get o j (cond b ((k, v) ∷ m) (cond (o.less k x.0) ((k, v) ∷ x ∷ m) (x ∷ insert o k v m))) ≡ cond (o.same j k) (some v) (cond (o.same j x.0) (some x.1) (get o j m))) [
-        | true ↦ λ e. rw (← lo.same_is k x.0 e) (elim (o.same j k) as (λ b. cond b (some v) (get o j m) ≡ cond b (some v) (cond b (some x.1) (get o j m))) [ true ↦ refl | false ↦ refl ])
-        | false ↦ λ e. (elim (o.less k x.0) as (λ b. get o j (cond b ((k, v) ∷ x ∷ m) (x ∷ insert o k v m)) ≡ cond (o.same j k) (some v) (cond (o.same j x.0) (some x.1) (get o j m))) [
+      (elim (o.same k x.0) as (λ b. o.same k x.0 ≡ b → get o j (cond b ((k, v) ∷ m) (cond (o.less k x.0) ((k, v) ∷ x ∷ m) (x ∷ insert o k v m))) ≡ cond (o.same j k) (Some v) (cond (o.same j x.0) (Some x.1) (get o j m))) [
+        | true ↦ λ e. rw (← lo.same_is k x.0 e) (elim (o.same j k) as (λ b. cond b (Some v) (get o j m) ≡ cond b (Some v) (cond b (Some x.1) (get o j m))) [ true ↦ refl | false ↦ refl ])
+        | false ↦ λ e. (elim (o.less k x.0) as (λ b. get o j (cond b ((k, v) ∷ x ∷ m) (x ∷ insert o k v m)) ≡ cond (o.same j k) (Some v) (cond (o.same j x.0) (Some x.1) (get o j m))) [
           | true ↦ refl
-          | false ↦ (elim (o.same j x.0) as (λ b. o.same j x.0 ≡ b → cond b (some x.1) (get o j (insert o k v m)) ≡ cond (o.same j k) (some v) (cond b (some x.1) (get o j m))) [
+          | false ↦ (elim (o.same j x.0) as (λ b. o.same j x.0 ≡ b → cond b (Some x.1) (get o j (insert o k v m)) ≡ cond (o.same j k) (Some v) (cond b (Some x.1) (get o j m))) [
             | true ↦ λ d. rw (lo.same_is j x.0 d, same_swap lo x.0 k, e)
             | false ↦ λ d. get_insert j k v m
           ]) refl
         ])
       ]) refl
 
-  pub get_remove : (j k : K) (m : List (K × A)) → get o j (remove o k m) ≡ cond (o.same j k) none (get o j m)
+  pub get_remove : (j k : K) (m : List (K × A)) → get o j (remove o k m) ≡ cond (o.same j k) None (get o j m)
   unfolding get remove keep
-  get_remove j k [] = elim (o.same j k) as (λ b. ◌≡◌ {A = Option A} none (cond b none none)) [ true ↦ refl | false ↦ refl ]
+  get_remove j k [] = elim (o.same j k) as (λ b. ◌≡◌ {A = Option A} None (cond b None None)) [ true ↦ refl | false ↦ refl ]
   get_remove j k (x ∷ m) =
-      (elim (o.same k x.0) as (λ b. o.same k x.0 ≡ b → get o j (cond (not b) (x ∷ remove o k m) (remove o k m)) ≡ cond (o.same j k) none (cond (o.same j x.0) (some x.1) (get o j m))) [
-        | true ↦ λ e. get_remove j k m ∙ rw (← lo.same_is k x.0 e) (elim (o.same j k) as (λ b. cond b none (get o j m) ≡ cond b none (cond b (some x.1) (get o j m))) [ true ↦ refl | false ↦ refl ])
-        | false ↦ λ e. (elim (o.same j x.0) as (λ b. o.same j x.0 ≡ b → cond b (some x.1) (get o j (remove o k m)) ≡ cond (o.same j k) none (cond b (some x.1) (get o j m))) [
+      (elim (o.same k x.0) as (λ b. o.same k x.0 ≡ b → get o j (cond (not b) (x ∷ remove o k m) (remove o k m)) ≡ cond (o.same j k) None (cond (o.same j x.0) (Some x.1) (get o j m))) [
+        | true ↦ λ e. get_remove j k m ∙ rw (← lo.same_is k x.0 e) (elim (o.same j k) as (λ b. cond b None (get o j m) ≡ cond b None (cond b (Some x.1) (get o j m))) [ true ↦ refl | false ↦ refl ])
+        | false ↦ λ e. (elim (o.same j x.0) as (λ b. o.same j x.0 ≡ b → cond b (Some x.1) (get o j (remove o k m)) ≡ cond (o.same j k) None (cond b (Some x.1) (get o j m))) [
           | true ↦ λ d. rw (lo.same_is j x.0 d, same_swap lo x.0 k, e)
           | false ↦ λ d. get_remove j k m
         ]) refl
@@ -187,13 +187,13 @@ module _ {K A : Type 0} {o : Order K} (lo : Lawful o) where
       ]
 
   -- a key before all of a map's is not in it
-  pub get_above : (k : K) (m : List (K × A)) → all (λ y. o.less k y.0) m ≡ true → get o k m ≡ none
+  pub get_above : (k : K) (m : List (K × A)) → all (λ y. o.less k y.0) m ≡ true → get o k m ≡ None
   unfolding get all
   get_above k [] e = refl
   get_above k (x ∷ m) e = rw (lo.less_apart k x.0 (and_left (o.less k x.0) _ e)) (get_above k m (and_right (o.less k x.0) _ e))
 
   -- an inserted value that is there already
-  pub get_found : (k : K) (x : K × A) (m : List (K × A)) → o.same k x.0 ≡ true → get o k (x ∷ m) ≡ some x.1
+  pub get_found : (k : K) (x : K × A) (m : List (K × A)) → o.same k x.0 ≡ true → get o k (x ∷ m) ≡ Some x.1
   unfolding get
   get_found k x m e = rw e
 
@@ -204,8 +204,8 @@ module _ {K A : Type 0} {o : Order K} (lo : Lawful o) where
 -- ---- a list counted over the values of a map that is keyed by a test of the list's elements
 
 abbrev pub len_o : {A : Type 0} → (A → ℕ) → Option A → ℕ
-len_o len none = 0
-len_o len (some a) = len a
+len_o len None = 0
+len_o len (Some a) = len a
 
 not_and_same : (t : Bool) → not t && t ≡ false
 not_and_same true = refl

@@ -3,7 +3,7 @@ use Prim.Native.Nat.{ℕ, ◌<◌}
 use mathlib.Core.Path.{◌≡◌, refl, sym, ap, ◌∙◌}
 use mathlib.Core.Bool.{Bool, true, false, cond}
 use mathlib.Core.List.{List, [], ◌∷◌, map}
-use mathlib.Core.Option.{Option, some}
+use Rattle.std.specs.Prelude.{Option, Some}
 use lib.IntN.{ℤ, pos, negsuc}
 use lib.Dec.{ltb}
 use Rattle.laws.specs.Lists.{change}
@@ -52,7 +52,7 @@ module _ {X : Type 0} where
   unfolding guids
   each_after P g v m own other h =
       rw (get_insert guids_lawful h g v m)
-      ((elim (same_guid h g) as (λ t. same_guid h g ≡ t → P h (or_default no_group (cond t (some v) (get guids h m)))) [
+      ((elim (same_guid h g) as (λ t. same_guid h g ≡ t → P h (or_default no_group (cond t (Some v) (get guids h m)))) [
         | true ↦ λ e. rw (same_eq h g e) own
         | false ↦ λ e. other h e
       ]) refl)

@@ -3,7 +3,7 @@ use Prim.Native.Nat.{ℕ, ◌+◌, ◌-◌, ◌^◌, min, ◌<◌}
 use mathlib.Core.Path.{◌≡◌, refl, sym, ap, ◌∙◌, subst}
 use mathlib.Core.Bool.{Bool, true, false, ◌&&◌, ◌||◌, not, cond}
 use mathlib.Core.List.{List, [], ◌∷◌, ◌++◌, map}
-use mathlib.Core.Option.{Option, some, none}
+use Rattle.std.specs.Prelude.{Option, Some, None}
 use native.Mathlib.Omega.{arith}
 use lib.IntN.{ℤ, pos, negsuc}
 use lib.Signed.{le_z}
@@ -71,7 +71,7 @@ module _ {X : Type 0} where
   committed_flat g (x ∷ m) =
       committed_cons g (flat x) (map (λ x. flat x) m)
       ∙ flat_cons g x (committed_of g (map (λ x. flat x) m))
-      ∙ (elim (same_guid g x.0) as (λ t. cond t (number x.1.committed) (committed_of g (map (λ x. flat x) m)) ≡ number (or_default no_group (cond t (some x.1) (get guids g m))).committed) [ true ↦ refl | false ↦ committed_flat g m ])
+      ∙ (elim (same_guid g x.0) as (λ t. cond t (number x.1.committed) (committed_of g (map (λ x. flat x) m)) ≡ number (or_default no_group (cond t (Some x.1) (get guids g m))).committed) [ true ↦ refl | false ↦ committed_flat g m ])
 
 -- ---- the mark of an end that joins
 
@@ -88,23 +88,23 @@ module _ {X : Type 0} where
   pub find_keep : (p : Entry X → Bool) (l : List (Entry X)) → find p l ≡ first_of (keep p l)
   unfolding find keep
   find_keep p [] = refl
-  find_keep p (a ∷ l) = elim (p a) as (λ t. cond t (some a) (find p l) ≡ first_of (cond t (a ∷ keep p l) (keep p l))) [ true ↦ refl | false ↦ find_keep p l ]
+  find_keep p (a ∷ l) = elim (p a) as (λ t. cond t (Some a) (find p l) ≡ first_of (cond t (a ∷ keep p l) (keep p l))) [ true ↦ refl | false ↦ find_keep p l ]
 
   one_mark : (o : Option SetEnd) (l : List (Entry X)) → EndLike o l → any (λ h. marks h) l ≡ is_some (mark_of (first_of l))
   unfolding any marks is_some
-  one_mark none [] no_end = refl
-  one_mark (some x) (e ∷ []) (one_end d) = or_false (is_some e.ended)
-  one_mark none (e ∷ _) x3 = elim x3 [ ]
-  one_mark (some x) [] x4 = elim x4 [ ]
-  one_mark (some x) (e ∷ (_ ∷ _)) x9 = elim x9 [ ]
+  one_mark None [] no_end = refl
+  one_mark (Some x) (e ∷ []) (one_end d) = or_false (is_some e.ended)
+  one_mark None (e ∷ _) x3 = elim x3 [ ]
+  one_mark (Some x) [] x4 = elim x4 [ ]
+  one_mark (Some x) (e ∷ (_ ∷ _)) x9 = elim x9 [ ]
 
-  pub pair_kept : (g : Guid) (z : ℤ) (e : Entry X) (l : List (Entry X)) → of_group g e ≡ true → e.set ≡ some z
+  pub pair_kept : (g : Guid) (z : ℤ) (e : Entry X) (l : List (Entry X)) → of_group g e ≡ true → e.set ≡ Some z
       → keep (λ h. replaced e h) l ≡ keep (λ h. is_pair_end (e.writer, e.reader) h) (keep (λ h. in_set g z h) l)
   pair_kept g z e l o d =
       keep_same (λ h. replaced e h) (λ h. in_set g z h && is_pair_end (e.writer, e.reader) h) (λ h. replaced_in g z e h o d) l
       ∙ sym (keep_keep (λ h. is_pair_end (e.writer, e.reader) h) (λ h. in_set g z h) l)
 
-  joined_mark : (g : Guid) (z : ℤ) (e : Entry X) (s : OpenSet X) (l : List (Entry X)) → of_group g e ≡ true → e.set ≡ some z → OpenLike s (keep (λ h. in_set g z h) l)
+  joined_mark : (g : Guid) (z : ℤ) (e : Entry X) (s : OpenSet X) (l : List (Entry X)) → of_group g e ≡ true → e.set ≡ Some z → OpenLike s (keep (λ h. in_set g z h) l)
       → s.end_committed ≡ any (λ h. marks h) (keep (λ h. not (is_pair_end (e.writer, e.reader) h)) (keep (λ h. in_set g z h) l)) || is_some (mark_of (find (λ h. replaced e h) l))
   joined_mark g z e s l o d k =
       let q : Guid × ℕ = (e.writer, e.reader) in
@@ -114,18 +114,18 @@ module _ {X : Type 0} where
       (one_mark (get pairs q s.ends) (keep (λ h. is_pair_end q h) r) (k.ends q)
       ∙ ap (λ w. is_some (mark_of (first_of w))) (sym (pair_kept g z e l o d)) ∙ ap (λ w. is_some (mark_of w)) (sym (find_keep (λ h. replaced e h) l)))
 
-pub open_of : {X : Type 0} (t : OpenSet X) (l : List (Entry X)) (u : Option (OpenSet X)) → u ≡ some t → SetLike u l → OpenLike t l
-open_of t [] none e closed = none_some t e
-open_of t l (some v) e (opened a k) = let q : v ≡ t = cc in rw (← q) k
-open_of {X = X} t (_ ∷ _) none e x6 = elim x6 [ ]
+pub open_of : {X : Type 0} (t : OpenSet X) (l : List (Entry X)) (u : Option (OpenSet X)) → u ≡ Some t → SetLike u l → OpenLike t l
+open_of t [] None e closed = none_some t e
+open_of t l (Some v) e (opened a k) = let q : v ≡ t = cc in rw (← q) k
+open_of {X = X} t (_ ∷ _) None e x6 = elim x6 [ ]
 
 pub pair_there : {X : Type 0} (o : Option SetEnd) (l : List (Entry X)) → EndLike o l → is_some o ≡ is_some (first_of l)
 unfolding is_some
-pair_there none [] no_end = refl
-pair_there (some x) (e ∷ []) (one_end d) = refl
-pair_there {X = X} none (e ∷ _) x3 = elim x3 [ ]
-pair_there {X = X} (some x) [] x4 = elim x4 [ ]
-pair_there {X = X} (some x) (e ∷ (_ ∷ _)) x9 = elim x9 [ ]
+pair_there None [] no_end = refl
+pair_there (Some x) (e ∷ []) (one_end d) = refl
+pair_there {X = X} None (e ∷ _) x3 = elim x3 [ ]
+pair_there {X = X} (Some x) [] x4 = elim x4 [ ]
+pair_there {X = X} (Some x) (e ∷ (_ ∷ _)) x9 = elim x9 [ ]
 
 -- ---- the state after an offer
 
@@ -227,7 +227,7 @@ module _ {X : Type 0} (o : GroupOrder X) (s : State X) (x : Offer X) (l : Like o
         (rw (record_of e) (push_group (entry_of x) own_entry)) (push_others (entry_of x) own_entry) (all_snoc (λ e. is_fresh e) s.pending (entry_of x) l.pending_plain (plain_entry q)) l.held_sets l.counts;
   }
 
-  what_of : (e : SetEnd) → end_w x.what ≡ some e → end_w (entry_of x).what ≡ some e
+  what_of : (e : SetEnd) → end_w x.what ≡ Some e → end_w (entry_of x).what ≡ Some e
   unfolding entry_of
   what_of e d = d
 
@@ -235,7 +235,7 @@ module _ {X : Type 0} (o : GroupOrder X) (s : State X) (x : Offer X) (l : Like o
   unfolding entry_of
   entry_set = refl
 
-  pair_kept' : (z : ℤ) → x.set ≡ some z → keep (λ h. replaced (entry_of x) h) s.held ≡ keep (λ h. is_pair_end (x.writer, x.reader) h) (keep (λ h. in_set x.group z h) s.held)
+  pair_kept' : (z : ℤ) → x.set ≡ Some z → keep (λ h. replaced (entry_of x) h) s.held ≡ keep (λ h. is_pair_end (x.writer, x.reader) h) (keep (λ h. in_set x.group z h) s.held)
   unfolding entry_of
   pair_kept' z a = pair_kept x.group z (entry_of x) s.held own_entry (entry_set ∙ a)
 
@@ -243,7 +243,7 @@ module _ {X : Type 0} (o : GroupOrder X) (s : State X) (x : Offer X) (l : Like o
   unfolding marked
   set_blind m e = refl
 
-  set_there : (z : ℤ) → x.set ≡ some z → is_some (entry_of x).set ≡ true
+  set_there : (z : ℤ) → x.set ≡ Some z → is_some (entry_of x).set ≡ true
   unfolding entry_of is_some
   set_there z e = ap (λ s. is_some s) e
 
@@ -255,7 +255,7 @@ module _ {X : Type 0} (o : GroupOrder X) (s : State X) (x : Offer X) (l : Like o
   unfolding with_end keeping entry_of
   joined_set z e t = refl
 
-  join_sets : (z : ℤ) (e : SetEnd) (t : OpenSet X) → x.set ≡ some z → end_w x.what ≡ some e → get numbers z after.sets ≡ some t
+  join_sets : (z : ℤ) (e : SetEnd) (t : OpenSet X) → x.set ≡ Some z → end_w x.what ≡ Some e → get numbers z after.sets ≡ Some t
       → SetsLike x.group (insert numbers z (with_end x.writer x.reader e t) after.sets) (join (entry_of x) s.held)
   unfolding join
   join_sets z e t a b c =
@@ -265,7 +265,7 @@ module _ {X : Type 0} (o : GroupOrder X) (s : State X) (x : Offer X) (l : Like o
       let w = keep_end_sets t.end_committed (mark_of (find (λ h. replaced (entry_of x) h) s.held)) x.group z (entry_of x) e after.sets s.held own_entry (entry_set ∙ a) (what_of e b) f own_after_lem.sets in
       rw (joined_set z e t) (rw q at w)
 
-  join_group : (z : ℤ) (e : SetEnd) (t : OpenSet X) → x.set ≡ some z → end_w x.what ≡ some e → get numbers z after.sets ≡ some t
+  join_group : (z : ℤ) (e : SetEnd) (t : OpenSet X) → x.set ≡ Some z → end_w x.what ≡ Some e → get numbers z after.sets ≡ Some t
       → GroupLike x.group (with_sets (insert numbers z (with_end x.writer x.reader e t) after.sets) after) told s.pending (join (entry_of x) s.held)
   unfolding with_sets
   join_group z e t a b c = record {
@@ -290,7 +290,7 @@ module _ {X : Type 0} (o : GroupOrder X) (s : State X) (x : Offer X) (l : Like o
   unfolding flat with_sets after with_writer
   join_flat m = refl
 
-  new_end_lem : (z : ℤ) (t : OpenSet X) → x.set ≡ some z → get numbers z old.sets ≡ some t
+  new_end_lem : (z : ℤ) (t : OpenSet X) → x.set ≡ Some z → get numbers z old.sets ≡ Some t
       → new_end (offer_entry x) old (offer_entry x).info.coherent_set_gsn ≡ not (any (λ h. replaced (entry_of x) h) s.held)
   unfolding offer_entry old
   new_end_lem z t a c =
@@ -303,7 +303,7 @@ module _ {X : Type 0} (o : GroupOrder X) (s : State X) (x : Offer X) (l : Like o
       ∙ ap is_some (sym (find_keep (λ h. replaced (entry_of x) h) s.held))
       ∙ find_any (λ h. replaced (entry_of x) h) s.held)
 
-  goes_join : (z : ℤ) (e : SetEnd) (t : OpenSet X) → x.set ≡ some z → end_w x.what ≡ some e → get numbers z after.sets ≡ some t
+  goes_join : (z : ℤ) (e : SetEnd) (t : OpenSet X) → x.set ≡ Some z → end_w x.what ≡ Some e → get numbers z after.sets ≡ Some t
       → Goes (did_join (with_sets (insert numbers z (with_end x.writer x.reader e t) after.sets) after)) is_joined
   unfolding F.adds place heard_offer with_marks told
   goes_join z e t a b c = record {
@@ -315,11 +315,11 @@ module _ {X : Type 0} (o : GroupOrder X) (s : State X) (x : Offer X) (l : Like o
 
   -- ---- the cases
 
-  no_share : x.set ≡ none → any (λ h. shares (entry_of x) h) s.held ≡ false
+  no_share : x.set ≡ None → any (λ h. shares (entry_of x) h) s.held ≡ false
   unfolding shares entry_of
   no_share e = any_empty (λ h. shares (entry_of x) h) (λ h. and_never (of_group x.group h) (same_set x.set h.set) (ap (λ t. same_set t h.set) e)) s.held
 
-  any_share : (z : ℤ) → x.set ≡ some z → any (λ h. shares (entry_of x) h) s.held ≡ is_some (first_of (keep (λ h. in_set x.group z h) s.held))
+  any_share : (z : ℤ) → x.set ≡ Some z → any (λ h. shares (entry_of x) h) s.held ≡ is_some (first_of (keep (λ h. in_set x.group z h) s.held))
   any_share z e =
       sym (find_any (λ h. shares (entry_of x) h) s.held) ∙ ap is_some (find_keep (λ h. shares (entry_of x) h) s.held)
       ∙ ap (λ k. is_some (first_of k)) (keep_same (λ h. shares (entry_of x) h) (λ h. in_set x.group z h) (λ h. shares_in x.group z (entry_of x) h own_entry (entry_set ∙ e)) s.held)
@@ -329,22 +329,22 @@ module _ {X : Type 0} (o : GroupOrder X) (s : State X) (x : Offer X) (l : Like o
   is_open t [] e = e
   is_open t (h ∷ k) e = refl
 
-  goes_case : (z : ℤ) (e : SetEnd) → x.set ≡ some z → end_w x.what ≡ some e → (u : Option (OpenSet X)) (w : List (Entry X)) → get numbers z after.sets ≡ u → SetLike u w
+  goes_case : (z : ℤ) (e : SetEnd) → x.set ≡ Some z → end_w x.what ≡ Some e → (u : Option (OpenSet X)) (w : List (Entry X)) → get numbers z after.sets ≡ u → SetLike u w
       → Goes (join_or x.writer x.reader e z after u) (fate false (is_some (first_of w)))
   unfolding is_some
-  goes_case z e a b none [] c closed = goes_late
-  goes_case z e a b (some t) w c (opened f g) = rw (is_open t w f) (goes_join z e t a b c)
-  goes_case z e a b none (_ ∷ _) c x7 = elim x7 [ ]
+  goes_case z e a b None [] c closed = goes_late
+  goes_case z e a b (Some t) w c (opened f g) = rw (is_open t w f) (goes_join z e t a b c)
+  goes_case z e a b None (_ ∷ _) c x7 = elim x7 [ ]
 
-  goes_set : (z : ℤ) (e : SetEnd) → x.set ≡ some z → end_w x.what ≡ some e
+  goes_set : (z : ℤ) (e : SetEnd) → x.set ≡ Some z → end_w x.what ≡ Some e
       → Goes (join_or x.writer x.reader e z after (get numbers z after.sets)) (fate false (any (λ h. shares (entry_of x) h) s.held))
   goes_set z e a b = rw (any_share z a) (goes_case z e a b (get numbers z after.sets) (keep (λ h. in_set x.group z h) s.held) refl (own_after_lem.sets.at z))
 
   goes_below : (w : What X) (t : Option ℤ) → x.what ≡ w → x.set ≡ t → Goes (joins (offer_entry x) after (end_w w) t) (fate false (not (is_sample_w w) && any (λ h. shares (entry_of x) h) s.held))
   unfolding offer_entry
   goes_below (sample i) t a b = goes_late
-  goes_below (set_end f g) none a b = rw (no_share b) goes_late
-  goes_below (set_end f g) (some z) a b = goes_set z (record { first_sn = f; ecs_sn = g }) b (ap (λ w. end_w w) a)
+  goes_below (set_end f g) None a b = rw (no_share b) goes_late
+  goes_below (set_end f g) (Some z) a b = goes_set z (record { first_sn = f; ecs_sn = g }) b (ap (λ w. end_w w) a)
 
   after_committed : after.committed ≡ old.committed
   unfolding after with_writer

@@ -3,7 +3,7 @@ use Prim.Native.Nat.{ℕ, ◌+◌}
 use mathlib.Core.Path.{◌≡◌, refl, ap, ◌∙◌}
 use mathlib.Core.Bool.{Bool, true, false, ◌&&◌, cond}
 use mathlib.Core.List.{List, [], ◌∷◌}
-use mathlib.Core.Option.{Option, some, none}
+use Rattle.std.specs.Prelude.{Option, Some, None}
 use native.Mathlib.Omega.{arith}
 use lib.Dec.{ltb, leb, eqb}
 use lib.ListN.{length}
@@ -51,8 +51,8 @@ module _ {X : Type 0} where
 
   offer_readers : (u : Option ℕ) (s : State X) (o : Offer X) → offer_refusal s o ≡ u → Readers s → Readers (offered u s o).1
   unfolding offer_refusal
-  offer_readers (some n) s o e r = r
-  offer_readers none s o e r = placed (fate_of s o) o s (refusal_first 1 (ltb 7 o.reader) ((2, ninth o.group s) ∷ (3, pair33 o.group o.writer s) ∷ (4, adds (fate_of s o) s o && leb 256 (St.stored s)) ∷ []) e) r
+  offer_readers (Some n) s o e r = r
+  offer_readers None s o e r = placed (fate_of s o) o s (refusal_first 1 (ltb 7 o.reader) ((2, ninth o.group s) ∷ (3, pair33 o.group o.writer s) ∷ (4, adds (fate_of s o) s o && leb 256 (St.stored s)) ∷ []) e) r
 
   released_readers : (s : State X) (v : View) (now : ℕ) → Readers s → Readers (back_to s (released s v now))
   unfolding released back_to work_of turn_of
@@ -62,8 +62,8 @@ module _ {X : Type 0} where
       record { pending = b.0; held = b.1 }
 
   release_readers : (u : Option ℕ) (s : State X) (v : View) (now : ℕ) → Readers s → Readers (released_if u s v now).1
-  release_readers (some n) s v now r = r
-  release_readers none s v now r = released_readers s v now r
+  release_readers (Some n) s v now r = r
+  release_readers None s v now r = released_readers s v now r
 
   pub step_readers : (s : State X) (c : Call X) → Readers s → Readers (step s c).1
   unfolding step offer release

@@ -3,7 +3,7 @@ use Prim.Native.Nat.{ℕ, zero, suc, ◌+◌, ◌-◌}
 use mathlib.Core.Path.{◌≡◌, refl, sym, ap, ◌∙◌}
 use mathlib.Core.Bool.{Bool, true, false, ◌&&◌, ◌||◌, not, cond}
 use mathlib.Core.List.{List, [], ◌∷◌, map}
-use mathlib.Core.Option.{Option, some, none}
+use Rattle.std.specs.Prelude.{Option, Some, None}
 use native.Mathlib.Omega.{arith}
 use lib.IntN.{ℤ, pos, negsuc, ◌+ℤ◌, ◌-ℤ◌}
 use lib.Signed.{lt_z, le_z}
@@ -40,8 +40,8 @@ first_find (a ∷ m) = refl
 
 is_some_lem : {A : Type 0} (o : Option A) → is_some o ≡ is_some_and (λ a. true) o
 unfolding is_some
-is_some_lem none = refl
-is_some_lem (some a) = refl
+is_some_lem None = refl
+is_some_lem (Some a) = refl
 
 vec_some : {A B : Type 0} (f : A → B) (l : List A) → is_some (vec_of (map f l)) ≡ is_some (first_of l)
 unfolding is_some
@@ -73,14 +73,14 @@ module _ {X : Type 0} where
   next_both : (t : Turn) (m : List (ℤ × List (S.Entry X))) (l : List (Entry X)) → PendingLike t.guid m l
       → (u : Option (ℤ × List (S.Entry X))) (w : Option ℕ) → find (λ x. true) m ≡ u → next t l ≡ w → key_of u ≡ map_o pos w
   unfolding numbers
-  next_both t m l k none none c d = refl
-  next_both t m l k none (some n) c d = not_both (any (λ e. is_at t.guid (pos n) e) l) (head_any t n l (next_head t l n d)) (sym (pending_there t.guid m l k (pos n)) ∙ passes_none numbers_lawful (λ x. true) m c (pos n))
-  next_both t m l k (some x) none c d =
+  next_both t m l k None None c d = refl
+  next_both t m l k None (Some n) c d = not_both (any (λ e. is_at t.guid (pos n) e) l) (head_any t n l (next_head t l n d)) (sym (pending_there t.guid m l k (pos n)) ∙ passes_none numbers_lawful (λ x. true) m c (pos n))
+  next_both t m l k (Some x) None c d =
       let o = passes_own numbers_lawful (λ x. true) m x k.ascend c in
       not_both (any (λ e. of_group t.guid e) l) (any_imp (λ e. is_at t.guid x.0 e) (λ e. of_group t.guid e) (λ e h. at_group_lem t.guid x.0 e h) l (sym (pending_there t.guid m l k x.0) ∙ ap (λ u. is_some_and (λ v. true) u) o.0)) (next_none t l d)
-  next_both t m l k (some x) (some n) c d =
+  next_both t m l k (Some x) (Some n) c d =
       let o = passes_own numbers_lawful (λ x. true) m x k.ascend c in
-      ap some (eq_below x.0 (pos n)
+      ap Some (eq_below x.0 (pos n)
       (any_all (λ e. is_at t.guid x.0 e) (λ e. not (of_group t.guid e) || leb n e.number) (λ e h i. at_lower t.guid x.0 n e h i) l (sym (pending_there t.guid m l k x.0) ∙ ap (λ u. is_some_and (λ v. true) u) o.0) (next_lower t l n d))
       (passes_least numbers_lawful (λ x. true) m x (pos n) k.ascend c (pending_there t.guid m l k (pos n) ∙ head_any t n l (next_head t l n d))))
 
@@ -132,15 +132,15 @@ counted_all v g p =
 pub find_keep_w : (p : Writer → Bool) (l : List Writer) → find p l ≡ first_of (keep p l)
 unfolding find keep
 find_keep_w p [] = refl
-find_keep_w p (a ∷ l) = elim (p a) as (λ t. cond t (some a) (find p l) ≡ first_of (cond t (a ∷ keep p l) (keep p l))) [ true ↦ refl | false ↦ find_keep_w p l ]
+find_keep_w p (a ∷ l) = elim (p a) as (λ t. cond t (Some a) (find p l) ≡ first_of (cond t (a ∷ keep p l) (keep p l))) [ true ↦ refl | false ↦ find_keep_w p l ]
 
 past_case : (r n : ℕ) (u : Option Progress) (l : List Writer) → WriterLike u l → is_some_and (λ p. is_past p r (pos (suc n))) u ≡ past_of (first_of l) r (suc n)
 unfolding past_of
-past_case r n none [] unknown = refl
-past_case r n (some p) (w ∷ []) (known k) = past_alike p w r n k
-past_case r n none (w ∷ _) x3 = elim x3 [ ]
-past_case r n (some p) [] x3 = elim x3 [ ]
-past_case r n (some p) (w ∷ (_ ∷ _)) x8 = elim x8 [ ]
+past_case r n None [] unknown = refl
+past_case r n (Some p) (w ∷ []) (known k) = past_alike p w r n k
+past_case r n None (w ∷ _) x3 = elim x3 [ ]
+past_case r n (Some p) [] x3 = elim x3 [ ]
+past_case r n (Some p) (w ∷ (_ ∷ _)) x8 = elim x8 [ ]
 
 pub past_of_lem : (g w : Guid) (r n : ℕ) (m : List (Guid × Progress)) (ws : List Writer) → WritersLike g m ws → is_some_and (λ p. is_past p r (pos (suc n))) (get guids w m) ≡ past_of (writer_of g w ws) r (suc n)
 unfolding writer_of
@@ -207,12 +207,12 @@ module _ (g : Guid) (ok : Option ℕ → Bool) (fm : Progress → Option ℕ) (f
 
   bad_one : (w : Guid) (u : Option Progress) (l : List Writer) → WriterLike u l → all (λ x. is_writer g w x) l ≡ true → count (λ x. bad x) l ≡ len_o (λ p. cond (not (ok (fm p))) 1 0) u
   unfolding all bad
-  bad_one w none [] unknown e = count_nil (λ x. bad x)
-  bad_one w (some p) (x ∷ []) (known k) e =
+  bad_one w None [] unknown e = count_nil (λ x. bad x)
+  bad_one w (Some p) (x ∷ []) (known k) e =
       count_one (λ x. bad x) x ∙ ap (λ b. cond (b && not (ok (ff x))) 1 0) (group_of g w x (and_left (is_writer g w x) _ e)) ∙ ap (λ o. cond (not (ok o)) 1 0) (sym (same p x k))
-  bad_one w none (x ∷ _) x6 e = elim x6 [ ]
-  bad_one w (some p) [] x4 e = elim x4 [ ]
-  bad_one w (some p) (x ∷ (_ ∷ _)) x10 e = elim x10 [ ]
+  bad_one w None (x ∷ _) x6 e = elim x6 [ ]
+  bad_one w (Some p) [] x4 e = elim x4 [ ]
+  bad_one w (Some p) (x ∷ (_ ∷ _)) x10 e = elim x10 [ ]
 
   all_digests : (m : List (Guid × Progress)) (ws : List Writer) → WritersLike g m ws → all (λ x. ok (fm x.1)) m ≡ all (λ x. not (same_guid g x.group && not (ok (ff x)))) ws
   unfolding bad guids
@@ -225,13 +225,13 @@ module _ (g : Guid) (ok : Option ℕ → Bool) (fm : Progress → Option ℕ) (f
 
 some_accepted : (g : Guid) (v : View) (o : Option ℕ) → not (is_some_and (λ d. not ((view_of v).writer_set_is_discovered g d)) o) ≡ accepted g v.digests o
 unfolding view_of accepted
-some_accepted g v none = refl
-some_accepted g v (some d) = sym (twice (accepted g v.digests (some d)))
+some_accepted g v None = refl
+some_accepted g v (Some d) = sym (twice (accepted g v.digests (Some d)))
 
 some_secure : (g : Guid) (v : View) (o : Option ℕ) → not (is_some_and (λ d. not ((view_of v).secure_writer_set_is_discovered g d)) o) ≡ secure_accepted o
 unfolding view_of secure_accepted
-some_secure g v none = refl
-some_secure g v (some d) = sym (twice (secure_accepted (some d)))
+some_secure g v None = refl
+some_secure g v (Some d) = sym (twice (secure_accepted (Some d)))
 
 pub known_alike : {X : Type 0} (v : View) (now timeout : ℕ) (ws : List Writer) (G : Group) (m : S.Group X) → WritersLike G.guid m.writers ws
     → set_known G.guid m (view_of v) ≡ digests_accepted (turn_of v now timeout ws G)

@@ -3,7 +3,7 @@ use Prim.Native.Nat.{ℕ, ◌+◌, ◌*◌, ◌≤◌}
 use mathlib.Core.Path.{◌≡◌, refl, sym, ap, ◌∙◌, subst}
 use mathlib.Core.Bool.{Bool, true, false, ◌&&◌, not, cond}
 use mathlib.Core.List.{List, [], ◌∷◌, map}
-use mathlib.Core.Option.{Option, some, none}
+use Rattle.std.specs.Prelude.{Option, Some, None}
 use native.Mathlib.Omega.{arith}
 use lib.IntN.{ℤ, pos}
 use lib.ListN.{length}
@@ -160,7 +160,7 @@ module _ {X : Type 0} where
   one_held t g w h f = f.1
 
 module _ {X : Type 0} where
-  here : (x : Guid × S.Group X) (m : List (Guid × S.Group X)) → get guids x.0 (x ∷ m) ≡ some x.1
+  here : (x : Guid × S.Group X) (m : List (Guid × S.Group X)) → get guids x.0 (x ∷ m) ≡ Some x.1
   unfolding guids
   here x m = get_found guids_lawful x.0 x m (same_refl x.0)
 
@@ -221,26 +221,26 @@ module _ (X : Type 0) (v : View) (now timeout : ℕ) (ws : List Writer) (turns n
 
   own_each : (x : Guid × S.Group X) (m : List (Guid × S.Group X)) (out : List (ℕ × X)) (c : ReleaseCounts) (w : Work X) → EachLike ws (x ∷ m) out c w → GroupLike x.0 x.1 ws w.pending w.held
   own_each x m out c w e =
-      let f : get guids x.0 (x ∷ m) ≡ some x.1 = here x m in
+      let f : get guids x.0 (x ∷ m) ≡ Some x.1 = here x m in
       subst (λ (u : Option (S.Group X)). GroupLike x.0 (or_default no_group u) ws w.pending w.held) f (e.each x.0 (is_there x m))
 
   first_loop : (x : Guid × S.Group X) (m : List (Guid × S.Group X)) (out : List (ℕ × X)) (c : ReleaseCounts) (w : Work X) → EachLike ws (x ∷ m) out c w → length w.pending + length w.held ≤ n
       → LoopLike (flat x).guid ws (flat x).announced (loop_of x out c) (R.release_group (T (flat x)) (flat x) w)
   first_loop x m out c w e h = one_group x out c w h (begin_like ws x out c w (own_each x m out c w e) e.plain e.held_sets e.out_same e.counts)
 
-  step_none : (x : Guid × S.Group X) (u : Option (Loop X)) (q : Option (Work X)) → StepLike (flat x).guid ws (flat x).announced u q → q ≡ none → u ≡ none
-  step_none x none none stops e = refl
-  step_none x (some lp) (some w) (goes l) e = none_some w (sym e)
-  step_none x none (some w) x5 e = elim x5 [ ]
-  step_none x (some lp) none x5 e = elim x5 [ ]
+  step_none : (x : Guid × S.Group X) (u : Option (Loop X)) (q : Option (Work X)) → StepLike (flat x).guid ws (flat x).announced u q → q ≡ None → u ≡ None
+  step_none x None None stops e = refl
+  step_none x (Some lp) (Some w) (goes l) e = none_some w (sym e)
+  step_none x None (Some w) x5 e = elim x5 [ ]
+  step_none x (Some lp) None x5 e = elim x5 [ ]
 
-  stopped : (x : Guid × S.Group X) (w : Work X) → round (T (flat x)) (R.release_group (T (flat x)) (flat x) w) ≡ none
+  stopped : (x : Guid × S.Group X) (w : Work X) → round (T (flat x)) (R.release_group (T (flat x)) (flat x) w) ≡ None
   unfolding R.release_group
   stopped x w = ap (λ k. round (T (flat x)) (rounds k (T (flat x)) (at_group (flat x) w))) (sym (enough_at (flat x) w)) ∙ never_on (T (flat x)) (at_group (flat x) w)
 
   -- the loop has returned within its turns: one turn more would return at once
   pub returned : (x : Guid × S.Group X) (m : List (Guid × S.Group X)) (out : List (ℕ × X)) (c : ReleaseCounts) (w : Work X) → EachLike ws (x ∷ m) out c w → length w.pending + length w.held ≤ n
-      → S.turn (flat x).guid (view_of v) now timeout (loop_of x out c) ≡ none
+      → S.turn (flat x).guid (view_of v) now timeout (loop_of x out c) ≡ None
   returned x m out c w e h =
       step_none x (S.turn (flat x).guid (view_of v) now timeout (loop_of x out c)) (round (T (flat x)) (R.release_group (T (flat x)) (flat x) w))
       (turn_like X v now timeout ws (flat x) (loop_of x out c) (R.release_group (T (flat x)) (flat x) w) (first_loop x m out c w e h)) (stopped x w)
@@ -256,7 +256,7 @@ module _ (X : Type 0) (v : View) (now timeout : ℕ) (ws : List Writer) (turns n
   unfolding get guids
   put_together x lp m r out c w1 a g e = record {
     each = λ h s.
-        (elim (same_guid h x.0) as (λ t. same_guid h x.0 ≡ t → is_some (cond t (some lp.group) (get guids h r)) ≡ true → GroupLike h (or_default no_group (cond t (some lp.group) (get guids h r))) ws (release_all T (map (λ x. flat x) m) w1).1.pending (release_all T (map (λ x. flat x) m) w1).1.held) [
+        (elim (same_guid h x.0) as (λ t. same_guid h x.0 ≡ t → is_some (cond t (Some lp.group) (get guids h r)) ≡ true → GroupLike h (or_default no_group (cond t (Some lp.group) (get guids h r))) ws (release_all T (map (λ x. flat x) m) w1).1.pending (release_all T (map (λ x. flat x) m) w1).1.held) [
           | true ↦ λ d i.
               let f = frame x.0 T T-guid (map (λ x. flat x) m) w1 (none_first x m a) in
               subst (λ (k : Guid). GroupLike k lp.group ws (release_all T (map (λ x. flat x) m) w1).1.pending (release_all T (map (λ x. flat x) m) w1).1.held) (sym (same_eq h x.0 d))
@@ -302,19 +302,19 @@ module _ {X : Type 0} where
   get_keys h (x ∷ l) (y ∷ k) e =
       let d : x.0 ≡ y.0 = cc in
       let f : map (λ x. x.0) l ≡ map (λ x. x.0) k = cc in
-      ap (λ g. is_some (cond (guids.same h g) (some x.1) (get guids h l))) d
-      ∙ (elim (guids.same h y.0) as (λ t. is_some (cond t (some x.1) (get guids h l)) ≡ is_some (cond t (some y.1) (get guids h k))) [ true ↦ refl | false ↦ get_keys h l k f ])
+      ap (λ g. is_some (cond (guids.same h g) (Some x.1) (get guids h l))) d
+      ∙ (elim (guids.same h y.0) as (λ t. is_some (cond t (Some x.1) (get guids h l)) ≡ is_some (cond t (Some y.1) (get guids h k))) [ true ↦ refl | false ↦ get_keys h l k f ])
 
-  get_none : (u : Option (S.Group X)) → is_some u ≡ false → u ≡ none
+  get_none : (u : Option (S.Group X)) → is_some u ≡ false → u ≡ None
   unfolding is_some
-  get_none none e = refl
-  get_none (some m) e = not_both true refl e
+  get_none None e = refl
+  get_none (Some m) e = not_both true refl e
 
   unknown_all : (h : Guid) (m : List (Guid × S.Group X)) → is_some (get guids h m) ≡ false → all (λ y. not (is_group h y)) (map (λ x. flat x) m) ≡ true
   unfolding get is_some all is_group flat guids
   unknown_all h [] e = refl
   unknown_all h (x ∷ m) e =
-      (elim (same_guid h x.0) as (λ t. is_some (cond t (some x.1) (get guids h m)) ≡ false → not t && all (λ y. not (is_group h y)) (map (λ x. flat x) m) ≡ true) [
+      (elim (same_guid h x.0) as (λ t. is_some (cond t (Some x.1) (get guids h m)) ≡ false → not t && all (λ y. not (is_group h y)) (map (λ x. flat x) m) ≡ true) [
         | true ↦ λ d. not_both true refl d
         | false ↦ λ d. unknown_all h m d
       ]) e

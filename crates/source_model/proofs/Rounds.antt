@@ -3,7 +3,7 @@ use Prim.Native.Nat.{ℕ, zero, suc, ◌-◌, ◌<◌}
 use mathlib.Core.Path.{◌≡◌, refl, sym, ap, ◌∙◌, subst}
 use mathlib.Core.Bool.{Bool, true, false, ◌&&◌, ◌||◌, not}
 use mathlib.Core.List.{List, [], ◌∷◌, ◌++◌, map}
-use mathlib.Core.Option.{Option, some, none}
+use Rattle.std.specs.Prelude.{Option, Some, None}
 use native.Mathlib.Omega.{arith}
 use lib.IntN.{ℤ, pos, ◌+ℤ◌, ◌-ℤ◌}
 use lib.Dec.{ltb, eqb}
@@ -40,9 +40,9 @@ swap_last false b c = refl
 module _ {X : Type 0} where
   ended_case : (u : Option (OpenSet X)) (l : List (Entry X)) → SetLike u l → any (λ m. marks m) l ≡ is_some_and (λ s. s.end_committed) u
   unfolding any
-  ended_case none [] closed = refl
-  ended_case (some s) l (opened a k) = sym k.ended
-  ended_case none (_ ∷ _) x4 = elim x4 [ ]
+  ended_case None [] closed = refl
+  ended_case (Some s) l (opened a k) = sym k.ended
+  ended_case None (_ ∷ _) x4 = elim x4 [ ]
 
   ended_sets : (g : Guid) (m : List (ℤ × OpenSet X)) (l : List (Entry X)) → SetsLike g m l
       → (z : ℤ) → any (λ h. is_set z h.set) (keep (λ h. of_group g h && marks h) l) ≡ is_some_and (λ s. s.end_committed) (get numbers z m)
@@ -72,9 +72,9 @@ first_map f [] = refl
 first_map f (a ∷ l) = refl
 
 agrees_parts : (X : Type 0) (m : ℕ) (f o : Option ℤ) → agrees_with m f o ≡ agrees_w {X = X} m (set_end f o)
-agrees_parts X m none o = refl
-agrees_parts X m (some f) none = refl
-agrees_parts X m (some f) (some o) = refl
+agrees_parts X m None o = refl
+agrees_parts X m (Some f) None = refl
+agrees_parts X m (Some f) (Some o) = refl
 
 module _ {X : Type 0} where
   end_of : (g : Guid) (z : ℤ) (p : Guid × ℕ) (h : Entry X) → in_set g z h && is_pair_end p h ≡ is_end_of g z p.0 p.1 h
@@ -91,21 +91,21 @@ module _ {X : Type 0} where
 
   waited_same : (now : ℕ) (u : Option (Entry X)) → S.waited now (map_o (λ e. as_entry e) u) ≡ waited now u
   unfolding as_entry
-  waited_same now none = refl
-  waited_same now (some e) = refl
+  waited_same now None = refl
+  waited_same now (Some e) = refl
 
-  agrees_what : (m : ℕ) (w : What X) (x : SetEnd) → end_w w ≡ some x → agrees_with m x.first_sn x.ecs_sn ≡ agrees_w m w
+  agrees_what : (m : ℕ) (w : What X) (x : SetEnd) → end_w w ≡ Some x → agrees_with m x.first_sn x.ecs_sn ≡ agrees_w m w
   agrees_what m (sample i) x d = none_some x d
   agrees_what m (set_end f o) x d =
       let q : record { first_sn = f; ecs_sn = o } ≡ x = cc in
       ap (λ y. agrees_with m y.first_sn y.ecs_sn) (sym q) ∙ agrees_parts X m f o
 
   agrees_case : (m : ℕ) (u : Option SetEnd) (l : List (Entry X)) → EndLike u l → is_some_and (λ x. agrees_with m x.first_sn x.ecs_sn) u ≡ agrees_e m (first_of l)
-  agrees_case m none [] no_end = refl
-  agrees_case m (some x) (e ∷ []) (one_end d) = agrees_what m e.what x d
-  agrees_case m none (e ∷ _) x3 = elim x3 [ ]
-  agrees_case m (some x) [] x4 = elim x4 [ ]
-  agrees_case m (some x) (e ∷ (_ ∷ _)) x9 = elim x9 [ ]
+  agrees_case m None [] no_end = refl
+  agrees_case m (Some x) (e ∷ []) (one_end d) = agrees_what m e.what x d
+  agrees_case m None (e ∷ _) x3 = elim x3 [ ]
+  agrees_case m (Some x) [] x4 = elim x4 [ ]
+  agrees_case m (Some x) (e ∷ (_ ∷ _)) x9 = elim x9 [ ]
 
   count_pair : (g : Guid) (z : ℤ) (p : Pair) (s : OpenSet X) (l : List (Entry X)) → OpenLike s (keep (λ h. in_set g z h) l)
       → count (λ m. same_guid p.writer m.writer && eqb p.reader m.reader) s.members ≡ members_of_pair g z p l
@@ -152,8 +152,8 @@ module _ {X : Type 0} where
 -- ---- the steps of a round
 
 pub data StepLike {X : Type 0} (g : Guid) (ws : List Writer) (a : ℕ) : Option (Loop X) → Option (Work X) → Type 0 where
-  stops : StepLike g ws a none none
-  goes : {lp : Loop X} {w : Work X} → LoopLike g ws a lp w → StepLike g ws a (some lp) (some w)
+  stops : StepLike g ws a None None
+  goes : {lp : Loop X} {w : Work X} → LoopLike g ws a lp w → StepLike g ws a (Some lp) (Some w)
 
 module _ (X : Type 0) (v : View) (now timeout : ℕ) (ws : List Writer) (G : Group) where
   abbrev pub t : Turn
@@ -274,7 +274,7 @@ module _ (X : Type 0) (v : View) (now timeout : ℕ) (ws : List Writer) (G : Gro
       subst (λ (r : List (S.Entry X)). Alike (S.commit_each r (S.taken (pos n) k lp)) (R.commit t n k w)) (sym (heads_same n lp w l))
       (commit_each_lem G.guid ws G.announced (head_of t n w.pending) (S.taken (pos n) k lp) _ (own_heads n w) (fresh_heads n w l.plain) (taken_like n k lp w l))
 
-  head_positive : (n : ℕ) (w : Work X) → all (λ e. is_fresh e) w.pending ≡ true → next t w.pending ≡ some n → 0 < n
+  head_positive : (n : ℕ) (w : Work X) → all (λ e. is_fresh e) w.pending ≡ true → next t w.pending ≡ Some n → 0 < n
   unfolding is_fresh is_head
   head_positive n w f d =
       any_all (λ e. is_head t n e) (λ e. is_fresh e) (λ e a b. let h = ltb-true 0 e.number (and_right (not (marks e)) _ b) in let q = eqb-true n e.number (and_right (of_group t.guid e) _ a) in omega (arith, h, q)) w.pending (next_head t w.pending n d) f
@@ -295,7 +295,7 @@ module _ (X : Type 0) (v : View) (now timeout : ℕ) (ws : List Writer) (G : Gro
   next_missing : (lp : Loop X) (w : Work X) → Alike lp w → lp.group.committed +ℤ pos 1 ≡ pos (suc w.committed)
   next_missing lp w l = ap (λ c. c +ℤ pos 1) l.committed ∙ one_more w.committed
 
-  head_some : (n : ℕ) (lp : Loop X) (w : Work X) → next t w.pending ≡ some n → Alike lp w
+  head_some : (n : ℕ) (lp : Loop X) (w : Work X) → next t w.pending ≡ Some n → Alike lp w
       → StepLike G.guid ws G.announced
       (take_if (is_ready G.guid (view_of v) now timeout lp.group (lp.group.committed +ℤ pos 1) (pos n)) (ltb (S.waited now (first_of (or_default [] (get numbers (pos n) lp.group.pending)))) timeout) (pos n) (as_u64 (pos n -ℤ (lp.group.committed +ℤ pos 1))) lp)
       (R.commit_if (ready t w.committed n w.pending) (young t (find (λ e. is_head t n e) w.pending)) t n w)
@@ -309,10 +309,10 @@ module _ (X : Type 0) (v : View) (now timeout : ℕ) (ws : List Writer) (G : Gro
 
   head_case : (u : Option (ℤ × List (S.Entry X))) (q : Option ℕ) (lp : Loop X) (w : Work X) → key_of u ≡ map_o pos q → next t w.pending ≡ q → Alike lp w
       → StepLike G.guid ws G.announced (at_head G.guid (view_of v) now timeout lp u) (R.head_step t w q)
-  head_case none none lp w e d l = stops
-  head_case none (some n) lp w e d l = none_some (pos n) e
-  head_case (some x) none lp w e d l = none_some x.0 (sym e)
-  head_case (some x) (some n) lp w e d l =
+  head_case None None lp w e d l = stops
+  head_case None (Some n) lp w e d l = none_some (pos n) e
+  head_case (Some x) None lp w e d l = none_some x.0 (sym e)
+  head_case (Some x) (Some n) lp w e d l =
       let q : x.0 ≡ pos n = cc in
       subst (λ (k : ℤ). StepLike G.guid ws G.announced
       (take_if (is_ready G.guid (view_of v) now timeout lp.group (lp.group.committed +ℤ pos 1) k) (ltb (S.waited now (first_of (or_default [] (get numbers k lp.group.pending)))) timeout) k (as_u64 (k -ℤ (lp.group.committed +ℤ pos 1))) lp)
@@ -328,12 +328,12 @@ module _ (X : Type 0) (v : View) (now timeout : ℕ) (ws : List Writer) (G : Gro
 
   ended_case2 : (u : Option (ℤ × OpenSet X)) (q : Option ℤ) (lp : Loop X) (w : Work X) → key_of u ≡ q → Alike lp w
       → StepLike G.guid ws G.announced (at_ended G.guid (view_of v) now timeout lp u) (R.end_step t w q)
-  ended_case2 none none lp w e l = head_case (first_of lp.group.pending) (next t w.pending) lp w (next_same lp w l) refl l
-  ended_case2 none (some z) lp w e l = none_some z e
-  ended_case2 (some x) none lp w e l = none_some x.0 (sym e)
-  ended_case2 (some x) (some z) lp w e l =
+  ended_case2 None None lp w e l = head_case (first_of lp.group.pending) (next t w.pending) lp w (next_same lp w l) refl l
+  ended_case2 None (Some z) lp w e l = none_some z e
+  ended_case2 (Some x) None lp w e l = none_some x.0 (sym e)
+  ended_case2 (Some x) (Some z) lp w e l =
       let q : x.0 ≡ z = cc in
-      subst (λ (y : ℤ). StepLike G.guid ws G.announced (at_ended G.guid (view_of v) now timeout lp (some x)) (R.finish_or (waits t y w.held) t y w)) q (ended_step x.0 lp w l)
+      subst (λ (y : ℤ). StepLike G.guid ws G.announced (at_ended G.guid (view_of v) now timeout lp (Some x)) (R.finish_or (waits t y w.held) t y w)) q (ended_step x.0 lp w l)
 
   pub turn_like : (lp : Loop X) (w : Work X) → Alike lp w → StepLike G.guid ws G.announced (turn G.guid (view_of v) now timeout lp) (round t w)
   unfolding turn round
@@ -343,10 +343,10 @@ module _ (X : Type 0) (v : View) (now timeout : ℕ) (ws : List Writer) (G : Gro
       → ((m : Loop X) (x : Work X) → Alike m x → Alike (release_group G.guid (view_of v) now timeout k m) (rounds k t x))
       → (u : Option (Loop X)) (q : Option (Work X)) → StepLike G.guid ws G.announced u q
       → Alike (or_return G.guid (view_of v) now timeout (λ m. release_group G.guid (view_of v) now timeout k m) lp u) (R.or_stop (λ v. rounds k t v) w q)
-  step_on k lp w l f none none stops = l
-  step_on k lp w l f (some m) (some x) (goes h) = f m x h
-  step_on k lp w l f none (some x) x3 = elim x3 [ ]
-  step_on k lp w l f (some m) none x3 = elim x3 [ ]
+  step_on k lp w l f None None stops = l
+  step_on k lp w l f (Some m) (Some x) (goes h) = f m x h
+  step_on k lp w l f None (Some x) x3 = elim x3 [ ]
+  step_on k lp w l f (Some m) None x3 = elim x3 [ ]
 
   pub rounds_like : (k : ℕ) (lp : Loop X) (w : Work X) → Alike lp w → Alike (release_group G.guid (view_of v) now timeout k lp) (rounds k t w)
   unfolding release_group rounds

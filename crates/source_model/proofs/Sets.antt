@@ -3,7 +3,7 @@ use Prim.Native.Nat.{ℕ}
 use mathlib.Core.Path.{◌≡◌, refl, sym, ap, ◌∙◌}
 use mathlib.Core.Bool.{Bool, true, false, ◌&&◌, ◌||◌, not, cond}
 use mathlib.Core.List.{List, [], ◌∷◌, ◌++◌, map}
-use mathlib.Core.Option.{Option, some, none}
+use Rattle.std.specs.Prelude.{Option, Some, None}
 use lib.IntN.{ℤ, pos}
 use borrow.Author.Tests.{eqb-true}
 use Rattle.laws.specs.Whole.{eq_z}
@@ -49,7 +49,7 @@ pub vec_back : {A : Type 0} (l : List A) → or_default [] (vec_of l) ≡ l
 vec_back [] = refl
 vec_back (a ∷ l) = refl
 
-vec_snoc : {A : Type 0} (l : List A) (a : A) → vec_of (l ++ (a ∷ [])) ≡ some (l ++ (a ∷ []))
+vec_snoc : {A : Type 0} (l : List A) (a : A) → vec_of (l ++ (a ∷ [])) ≡ Some (l ++ (a ∷ []))
 vec_snoc [] a = refl
 vec_snoc (b ∷ l) a = refl
 
@@ -71,7 +71,7 @@ module _ {X : Type 0} where
   unfolding entry numbers
   push_like g m l e o k = record {
     at = λ n. rw (get_insert numbers_lawful n (pos e.number) (or_default [] (get numbers (pos e.number) m) ++ (as_entry e ∷ [])) m)
-        ((elim (eq_z n (pos e.number)) as (λ t. eq_z n (pos e.number) ≡ t → cond t (some (or_default [] (get numbers (pos e.number) m) ++ (as_entry e ∷ []))) (get numbers n m) ≡ vec_of (map (λ e. as_entry e) (keep (λ x. is_at g n x) (l ++ (e ∷ []))))) [
+        ((elim (eq_z n (pos e.number)) as (λ t. eq_z n (pos e.number) ≡ t → cond t (Some (or_default [] (get numbers (pos e.number) m) ++ (as_entry e ∷ []))) (get numbers n m) ≡ vec_of (map (λ e. as_entry e) (keep (λ x. is_at g n x) (l ++ (e ∷ []))))) [
           | true ↦ λ d.
               let q : n ≡ pos e.number = eq_z_eq n (pos e.number) d in
               rw (keep_first (λ x. is_at g n x) l e (at_own g n e o d), map_append (λ e. as_entry e) (keep (λ x. is_at g n x) l) (e ∷ []), vec_snoc (map (λ e. as_entry e) (keep (λ x. is_at g n x) l)) (as_entry e), ← q, k.at n, vec_back (map (λ e. as_entry e) (keep (λ x. is_at g n x) l)))
@@ -105,7 +105,7 @@ module _ {X : Type 0} where
   unfolding numbers
   take_like g n m l p = record {
     at = λ k. rw (get_remove numbers_lawful k n m)
-        ((elim (eq_z k n) as (λ t. eq_z k n ≡ t → cond t none (get numbers k m) ≡ vec_of (map (λ e. as_entry e) (keep (λ x. is_at g k x) (keep (λ x. not (is_at g n x)) l)))) [
+        ((elim (eq_z k n) as (λ t. eq_z k n ≡ t → cond t None (get numbers k m) ≡ vec_of (map (λ e. as_entry e) (keep (λ x. is_at g k x) (keep (λ x. not (is_at g n x)) l)))) [
           | true ↦ λ d. rw (eq_z_eq k n d, none_left g n l)
           | false ↦ λ d. rw (keep_under (λ x. not (is_at g n x)) (λ x. is_at g k x) (λ x h. one_number g n k x d h) l) (p.at k)
         ]) refl);
@@ -119,11 +119,11 @@ module _ {X : Type 0} where
   no_set_like = record { members = refl; ends = λ p. no_end; ends_ascend = refl; ended = refl }
 
   pub set_open : (o : Option (OpenSet X)) (l : List (Entry X)) → SetLike o l → OpenLike (or_default no_set o) l
-  set_open none [] closed = no_set_like
-  set_open (some s) l (opened a k) = k
-  set_open none (_ ∷ _) x4 = elim x4 [ ]
+  set_open None [] closed = no_set_like
+  set_open (Some s) l (opened a k) = k
+  set_open None (_ ∷ _) x4 = elim x4 [ ]
 
-  not_sample : (w : What X) (x : SetEnd) → end_w w ≡ some x → is_sample_w w ≡ false
+  not_sample : (w : What X) (x : SetEnd) → end_w w ≡ Some x → is_sample_w w ≡ false
   not_sample (sample i) x e = cc
   not_sample (set_end f o) x e = refl
 
@@ -132,11 +132,11 @@ module _ {X : Type 0} where
   unfolding is_pair_end
   sample_stays q h e = rw e
 
-  marked_sample : (m : Option ℕ) (e : Entry X) (x : SetEnd) → end_w e.what ≡ some x → is_sample (marked m e) ≡ false
+  marked_sample : (m : Option ℕ) (e : Entry X) (x : SetEnd) → end_w e.what ≡ Some x → is_sample (marked m e) ≡ false
   unfolding is_sample marked
   marked_sample m e x d = not_sample e.what x d
 
-  marked_end : (m : Option ℕ) (e : Entry X) (x : SetEnd) (p : Guid × ℕ) → end_w e.what ≡ some x → is_pair_end p (marked m e) ≡ pairs.same p (e.writer, e.reader)
+  marked_end : (m : Option ℕ) (e : Entry X) (x : SetEnd) (p : Guid × ℕ) → end_w e.what ≡ Some x → is_pair_end p (marked m e) ≡ pairs.same p (e.writer, e.reader)
   unfolding is_pair_end marked is_sample of_pair pairs
   marked_end m e x p d = rw (not_sample e.what x d)
 
@@ -162,7 +162,7 @@ module _ {X : Type 0} where
   unfoldable pub keeping : Bool → Entry X → SetEnd → OpenSet X → OpenSet X
   keeping b e x s = record { members = s.members; ends = insert pairs (e.writer, e.reader) x s.ends; end_committed = b }
 
-  pub keep_end_like : (b : Bool) (m : Option ℕ) (e : Entry X) (x : SetEnd) (s : OpenSet X) (l : List (Entry X)) → end_w e.what ≡ some x
+  pub keep_end_like : (b : Bool) (m : Option ℕ) (e : Entry X) (x : SetEnd) (s : OpenSet X) (l : List (Entry X)) → end_w e.what ≡ Some x
       → b ≡ any (λ h. marks h) (keep (λ h. not (is_pair_end (e.writer, e.reader) h)) l) || is_some m
       → OpenLike s l → OpenLike (keeping b e x s) (keep (λ h. not (is_pair_end (e.writer, e.reader) h)) l ++ (marked m e ∷ []))
   unfolding keeping any
@@ -172,7 +172,7 @@ module _ {X : Type 0} where
       record {
         members = k.members ∙ ap (λ z. map (λ e. as_entry e) z) (sym (keep_last (λ h. is_sample h) r (marked m e) (marked_sample m e x d) ∙ keep_under (λ h. not (is_pair_end q h)) (λ h. is_sample h) (λ h. sample_stays q h) l));
         ends = λ p. rw (get_insert pairs_lawful p q x s.ends)
-            ((elim (pairs.same p q) as (λ t. pairs.same p q ≡ t → EndLike (cond t (some x) (get pairs p s.ends)) (keep (λ h. is_pair_end p h) (r ++ (marked m e ∷ [])))) [
+            ((elim (pairs.same p q) as (λ t. pairs.same p q ≡ t → EndLike (cond t (Some x) (get pairs p s.ends)) (keep (λ h. is_pair_end p h) (r ++ (marked m e ∷ [])))) [
               | true ↦ λ a. rw (pairs_lawful.same_is p q a, keep_first (λ h. is_pair_end q h) r (marked m e) (marked_end m e x q d ∙ pairs_lawful.same_self q), no_pair_left q l) (one_end (ap (λ w. end_w w) (marked_what m e) ∙ d))
               | false ↦ λ a. rw (keep_last (λ h. is_pair_end p h) r (marked m e) (marked_end m e x p d ∙ a), keep_under (λ h. not (is_pair_end q h)) (λ h. is_pair_end p h) (λ h u. ap not (true_or_false (is_pair_end q h) (λ v. not_both (pairs.same p q) (pair_of p q h u v) a))) l) (k.ends p)
             ]) refl);
@@ -183,11 +183,11 @@ module _ {X : Type 0} where
   -- ---- the group's open sets
 
   -- e is of the group's set z
-  pub shares_in : (g : Guid) (z : ℤ) (e h : Entry X) → of_group g e ≡ true → e.set ≡ some z → shares e h ≡ in_set g z h
+  pub shares_in : (g : Guid) (z : ℤ) (e h : Entry X) → of_group g e ≡ true → e.set ≡ Some z → shares e h ≡ in_set g z h
   unfolding shares in_set of_group
   shares_in g z e h o d = rw (same_eq g e.group o) (ap (λ s. same_guid e.group h.group && same_set s h.set) d)
 
-  pub replaced_in : (g : Guid) (z : ℤ) (e h : Entry X) → of_group g e ≡ true → e.set ≡ some z → replaced e h ≡ in_set g z h && is_pair_end (e.writer, e.reader) h
+  pub replaced_in : (g : Guid) (z : ℤ) (e h : Entry X) → of_group g e ≡ true → e.set ≡ Some z → replaced e h ≡ in_set g z h && is_pair_end (e.writer, e.reader) h
   unfolding replaced is_pair_end
   replaced_in g z e h o d = rw (shares_in g z e h o d) (and_three (in_set g z h) (not (is_sample h)) (of_pair e.writer e.reader h))
 
@@ -195,11 +195,11 @@ module _ {X : Type 0} where
   unfolding marked in_set of_group
   marked_set m g z e = refl
 
-  pub in_own : (g : Guid) (z : ℤ) (e : Entry X) → of_group g e ≡ true → e.set ≡ some z → in_set g z e ≡ true
+  pub in_own : (g : Guid) (z : ℤ) (e : Entry X) → of_group g e ≡ true → e.set ≡ Some z → in_set g z e ≡ true
   unfolding in_set
   in_own g z e o d = and_true (of_group g e) _ o (ap (λ s. is_set z s) d ∙ eq_z_refl z)
 
-  pub in_other : (g : Guid) (z y : ℤ) (e : Entry X) → e.set ≡ some z → eq_z y z ≡ false → in_set g y e ≡ false
+  pub in_other : (g : Guid) (z y : ℤ) (e : Entry X) → e.set ≡ Some z → eq_z y z ≡ false → in_set g y e ≡ false
   unfolding in_set
   in_other g z y e d a = and_never (of_group g e) _ (ap (λ s. is_set y s) d ∙ a)
 
@@ -208,11 +208,11 @@ module _ {X : Type 0} where
   one_set g z y h a b =
       and_never (of_group g h) (is_set z h.set)
       ((elim h.set as (λ s. is_set y s ≡ true → is_set z s ≡ false) [
-        | none ↦ λ c. refl
-        | some v ↦ λ c. true_or_false (eq_z z v) (λ k. not_both (eq_z y z) (rw (eq_z_eq z v k) c) a)
+        | None ↦ λ c. refl
+        | Some v ↦ λ c. true_or_false (eq_z z v) (λ k. not_both (eq_z y z) (rw (eq_z_eq z v k) c) a)
       ]) (and_right (of_group g h) _ b))
 
-  kept_own : (m : Option ℕ) (g : Guid) (z : ℤ) (e : Entry X) (l : List (Entry X)) → of_group g e ≡ true → e.set ≡ some z
+  kept_own : (m : Option ℕ) (g : Guid) (z : ℤ) (e : Entry X) (l : List (Entry X)) → of_group g e ≡ true → e.set ≡ Some z
       → keep (λ h. in_set g z h) (keep_end m e l) ≡ keep (λ h. not (is_pair_end (e.writer, e.reader) h)) (keep (λ h. in_set g z h) l) ++ (marked m e ∷ [])
   unfolding keep_end
   kept_own m g z e l o d =
@@ -222,7 +222,7 @@ module _ {X : Type 0} where
       ∙ keep_same (λ h. not (replaced e h) && in_set g z h) (λ h. in_set g z h && not (is_pair_end (e.writer, e.reader) h)) (λ h. ap (λ b. not b && in_set g z h) (replaced_in g z e h o d) ∙ and_swap_not (in_set g z h) (is_pair_end (e.writer, e.reader) h)) l
       ∙ sym (keep_keep (λ h. not (is_pair_end (e.writer, e.reader) h)) (λ h. in_set g z h) l))
 
-  kept_other : (m : Option ℕ) (g : Guid) (z y : ℤ) (e : Entry X) (l : List (Entry X)) → of_group g e ≡ true → e.set ≡ some z → eq_z y z ≡ false
+  kept_other : (m : Option ℕ) (g : Guid) (z y : ℤ) (e : Entry X) (l : List (Entry X)) → of_group g e ≡ true → e.set ≡ Some z → eq_z y z ≡ false
       → keep (λ h. in_set g y h) (keep_end m e l) ≡ keep (λ h. in_set g y h) l
   unfolding keep_end
   kept_other m g z y e l o d a =
@@ -234,13 +234,13 @@ module _ {X : Type 0} where
   snoc_any [] e = refl
   snoc_any (h ∷ l) e = refl
 
-  pub keep_end_sets : (b : Bool) (mk : Option ℕ) (g : Guid) (z : ℤ) (e : Entry X) (x : SetEnd) (m : List (ℤ × OpenSet X)) (l : List (Entry X)) → of_group g e ≡ true → e.set ≡ some z → end_w e.what ≡ some x
+  pub keep_end_sets : (b : Bool) (mk : Option ℕ) (g : Guid) (z : ℤ) (e : Entry X) (x : SetEnd) (m : List (ℤ × OpenSet X)) (l : List (Entry X)) → of_group g e ≡ true → e.set ≡ Some z → end_w e.what ≡ Some x
       → b ≡ any (λ h. marks h) (keep (λ h. not (is_pair_end (e.writer, e.reader) h)) (keep (λ h. in_set g z h) l)) || is_some mk
       → SetsLike g m l → SetsLike g (insert numbers z (keeping b e x (or_default no_set (get numbers z m))) m) (keep_end mk e l)
   unfolding numbers
   keep_end_sets b mk g z e x m l o d w f k = record {
     at = λ y. rw (get_insert numbers_lawful y z (keeping b e x (or_default no_set (get numbers z m))) m)
-        ((elim (eq_z y z) as (λ t. eq_z y z ≡ t → SetLike (cond t (some (keeping b e x (or_default no_set (get numbers z m)))) (get numbers y m)) (keep (λ h. in_set g y h) (keep_end mk e l))) [
+        ((elim (eq_z y z) as (λ t. eq_z y z ≡ t → SetLike (cond t (Some (keeping b e x (or_default no_set (get numbers z m)))) (get numbers y m)) (keep (λ h. in_set g y h) (keep_end mk e l))) [
           | true ↦ λ a. rw (eq_z_eq y z a, kept_own mk g z e l o d)
               (opened (snoc_any (keep (λ h. not (is_pair_end (e.writer, e.reader) h)) (keep (λ h. in_set g z h) l)) (marked mk e)) (keep_end_like b mk e x (or_default no_set (get numbers z m)) (keep (λ h. in_set g z h) l) w f (set_open (get numbers z m) (keep (λ h. in_set g z h) l) (k.at z))))
           | false ↦ λ a. rw (kept_other mk g z y e l o d a) (k.at y)
@@ -289,12 +289,12 @@ module _ {X : Type 0} where
     ended = k.ended ∙ sym (any_append (λ h. marks h) l (e ∷ []) ∙ ap (λ b. any (λ h. marks h) l || (b || false)) u ∙ or_false (any (λ h. marks h) l));
   }
 
-  pub member_sets : (g : Guid) (z : ℤ) (e : Entry X) (m : List (ℤ × OpenSet X)) (l : List (Entry X)) → of_group g e ≡ true → e.set ≡ some z → is_sample e ≡ true → marks e ≡ false
+  pub member_sets : (g : Guid) (z : ℤ) (e : Entry X) (m : List (ℤ × OpenSet X)) (l : List (Entry X)) → of_group g e ≡ true → e.set ≡ Some z → is_sample e ≡ true → marks e ≡ false
       → SetsLike g m l → SetsLike g (insert numbers z (with_member (as_entry e) (or_default no_set (get numbers z m))) m) (l ++ (e ∷ []))
   unfolding numbers
   member_sets g z e m l o d i u k = record {
     at = λ y. rw (get_insert numbers_lawful y z (with_member (as_entry e) (or_default no_set (get numbers z m))) m)
-        ((elim (eq_z y z) as (λ t. eq_z y z ≡ t → SetLike (cond t (some (with_member (as_entry e) (or_default no_set (get numbers z m)))) (get numbers y m)) (keep (λ h. in_set g y h) (l ++ (e ∷ [])))) [
+        ((elim (eq_z y z) as (λ t. eq_z y z ≡ t → SetLike (cond t (Some (with_member (as_entry e) (or_default no_set (get numbers z m)))) (get numbers y m)) (keep (λ h. in_set g y h) (l ++ (e ∷ [])))) [
           | true ↦ λ a. rw (eq_z_eq y z a, keep_first (λ h. in_set g z h) l e (in_own g z e o d))
               (opened (snoc_any (keep (λ h. in_set g z h) l) e) (member_open e (or_default no_set (get numbers z m)) (keep (λ h. in_set g z h) l) i u (set_open (get numbers z m) (keep (λ h. in_set g z h) l) (k.at z))))
           | false ↦ λ a. rw (keep_last (λ h. in_set g y h) l e (in_other g z y e d a)) (k.at y)
@@ -315,7 +315,7 @@ module _ {X : Type 0} where
   unfolding numbers
   remove_sets g z m l k = record {
     at = λ y. rw (get_remove numbers_lawful y z m)
-        ((elim (eq_z y z) as (λ t. eq_z y z ≡ t → SetLike (cond t none (get numbers y m)) (keep (λ h. in_set g y h) (without g z l))) [
+        ((elim (eq_z y z) as (λ t. eq_z y z ≡ t → SetLike (cond t None (get numbers y m)) (keep (λ h. in_set g y h) (without g z l))) [
           | true ↦ λ a. rw (eq_z_eq y z a, none_in g z l) closed
           | false ↦ λ a. rw (unfold_without g z y l a) (k.at y)
         ]) refl);

@@ -3,7 +3,7 @@ use Prim.Native.Nat.{ℕ, ◌+◌, ◌^◌, ◌≤◌, ◌<◌}
 use mathlib.Core.Path.{◌≡◌, refl, sym, ap, ◌∙◌, subst}
 use mathlib.Core.Bool.{Bool, true, false, ◌&&◌}
 use mathlib.Core.List.{List, [], ◌∷◌, ◌++◌, map}
-use mathlib.Core.Option.{Option, some, none}
+use Rattle.std.specs.Prelude.{Option, Some, None}
 use native.Mathlib.Omega.{arith}
 use lib.Dec.{ltb, leb}
 use lib.ListN.{length}
@@ -86,8 +86,8 @@ module _ {X : Type 0} (o : GroupOrder X) (s : State X) (l : Like (bare_order o) 
     offered_like = goes.like
 
     offered_case : (u : Option ℕ) → Same (offer_unless u o x) (said_offer (F.offered u s x).0, (F.offered u s x).1)
-    offered_case (some n) = record { answer = refl; like = l }
-    offered_case none = record { answer = ap told_offered (fate_bare ∙ goes.fate_same); like = subst (λ (p : GroupOrder X). Like p (F.place (F.fate_of s x) (F.entry_of x) (F.heard_offer x s))) (sym offer_bare) offered_like }
+    offered_case (Some n) = record { answer = refl; like = l }
+    offered_case None = record { answer = ap told_offered (fate_bare ∙ goes.fate_same); like = subst (λ (p : GroupOrder X). Like p (F.place (F.fate_of s x) (F.entry_of x) (F.heard_offer x s))) (sym offer_bare) offered_like }
 
     at_bare : bare_group (group_at x.group o) ≡ group_at x.group (bare_order o)
     unfolding group_at
@@ -109,7 +109,7 @@ module _ {X : Type 0} (o : GroupOrder X) (s : State X) (l : Like (bare_order o) 
         ∙ ap (λ b. refusal ((1, ltb 7 x.reader) ∷ (2, F.ninth x.group s) ∷ (3, F.pair33 x.group x.writer s) ∷ (4, b && leb 256 (stored o)) ∷ [])) adds_at
         ∙ ap (λ n. refusal ((1, ltb 7 x.reader) ∷ (2, F.ninth x.group s) ∷ (3, F.pair33 x.group x.writer s) ∷ (4, F.adds (F.fate_of s x) s x && leb 256 n) ∷ [])) (sym (stored_bare o) ∙ sym (stored_same (bare_order o) s l))
 
-  large_reader : (x : Offer X) → ltb 7 x.reader ≡ true → (offer_refusal o x ≡ some 1) × (F.offer_refusal s x ≡ some 1)
+  large_reader : (x : Offer X) → ltb 7 x.reader ≡ true → (offer_refusal o x ≡ Some 1) × (F.offer_refusal s x ≡ Some 1)
   unfolding offer_refusal F.offer_refusal refusal
   large_reader x e = (rw e, rw e)
 
@@ -120,7 +120,7 @@ module _ {X : Type 0} (o : GroupOrder X) (s : State X) (l : Like (bare_order o) 
         | true ↦ λ e.
             let q = large_reader x e in
             subst (λ (u : Option ℕ). Same (offer_unless u o x) (said_offer (F.offered (F.offer_refusal s x) s x).0, (F.offered (F.offer_refusal s x) s x).1)) (sym q.0)
-            (subst (λ (u : Option ℕ). Same (offer_unless (some 1) o x) (said_offer (F.offered u s x).0, (F.offered u s x).1)) (sym q.1) (record { answer = refl; like = l }))
+            (subst (λ (u : Option ℕ). Same (offer_unless (Some 1) o x) (said_offer (F.offered u s x).0, (F.offered u s x).1)) (sym q.1) (record { answer = refl; like = l }))
         | false ↦ λ e.
             let r : x.reader < 8 = omega (arith, ltb-false 7 x.reader e) in
             subst (λ (u : Option ℕ). Same (offer_unless u o x) (said_offer (F.offered (F.offer_refusal s x) s x).0, (F.offered (F.offer_refusal s x) s x).1)) (sym (refusal_same x r)) (offered_case x r (F.offer_refusal s x))
@@ -128,9 +128,9 @@ module _ {X : Type 0} (o : GroupOrder X) (s : State X) (l : Like (bare_order o) 
 
   -- ---- heartbeats and gaps
 
-  done_case : (u : Option ℕ) (p : GroupOrder X) (q : State X) → (u ≡ none → Like (bare_order p) q) → Same (done_unless u o p) (said_done (F.done u s q).0, (F.done u s q).1)
-  done_case (some n) p q k = record { answer = refl; like = l }
-  done_case none p q k = record { answer = refl; like = k refl }
+  done_case : (u : Option ℕ) (p : GroupOrder X) (q : State X) → (u ≡ None → Like (bare_order p) q) → Same (done_unless u o p) (said_done (F.done u s q).0, (F.done u s q).1)
+  done_case (Some n) p q k = record { answer = refl; like = l }
+  done_case None p q k = record { answer = refl; like = k refl }
 
   -- the likeness, carried along an equation of the model's states
   carried : (p q : GroupOrder X) (r : State X) → p ≡ q → Like p r → Like q r
@@ -158,8 +158,8 @@ module _ {X : Type 0} (o : GroupOrder X) (s : State X) (l : Like (bare_order o) 
 
   release_case : (turns now : ℕ) (v : View) (u : Option ℕ) → 513 ≤ turns → length s.pending + length s.held ≤ 256
       → Same (release_unless u turns o v now) (said_release (R.released_if u s v now).0, (R.released_if u s v now).1)
-  release_case turns now v (some n) f q = record { answer = refl; like = l }
-  release_case turns now v none f q = record {
+  release_case turns now v (Some n) f q = record { answer = refl; like = l }
+  release_case turns now v None f q = record {
     answer = ap told_released (sym (ap (λ (r : List (ℕ × X) × GroupOrder X). r.0) (release_bare turns o (view_of v) now)) ∙ release_out (bare_order o) s v now turns l f q);
     like = subst (λ (p : GroupOrder X). Like p (R.back_to s (R.released s v now))) (ap (λ (r : List (ℕ × X) × GroupOrder X). r.1) (release_bare turns o (view_of v) now)) (release_like (bare_order o) s v now turns l f q);
   }

@@ -3,7 +3,7 @@ use Prim.Native.Nat.{ℕ}
 use mathlib.Core.Path.{◌≡◌, refl, ap, ◌∙◌}
 use mathlib.Core.Bool.{Bool, true, false, ◌&&◌}
 use mathlib.Core.List.{List, [], ◌∷◌}
-use mathlib.Core.Option.{Option, some, none}
+use Rattle.std.specs.Prelude.{Option, Some, None}
 use lib.Dec.{eqb}
 use Rattle.laws.specs.Lists.{all, count, is_some}
 use Rattle.guids.specs.Guid.{Guid, same_guid}
@@ -12,13 +12,13 @@ use Rattle.source_model.specs.Map.{pairs, get}
 use Rattle.source_model.specs.Source.{SetEnd, OpenSet, is_some_and, agrees_with, complete}
 
 abbrev or_else : Bool → (SetEnd → Bool) → Option SetEnd → Bool
-or_else d p none = d
-or_else d p (some e) = p e
+or_else d p None = d
+or_else d p (Some e) = p e
 
 present : (d : Bool) (p : SetEnd → Bool) (u : Option SetEnd) → is_some u ≡ true → is_some_and p u ≡ or_else d p u
 unfolding is_some
-present d p none h = not_both false h refl
-present d p (some e) h = refl
+present d p None h = not_both false h refl
+present d p (Some e) h = refl
 
 module _ {I : Type 0} where
   -- the pair's end agrees, and d where it has none

@@ -4,7 +4,7 @@ use Prim.Native.Nat.{ℕ, zero, suc, ◌+◌, ◌-◌, ◌^◌}
 use mathlib.Core.Path.{◌≡◌, refl, sym, ap, ◌∙◌}
 use mathlib.Core.Bool.{Bool, true, false, ◌&&◌, not, cond}
 use mathlib.Core.List.{List, [], ◌∷◌, ◌++◌}
-use mathlib.Core.Option.{Option, some, none}
+use Rattle.std.specs.Prelude.{Option, Some, None}
 use native.Mathlib.Omega.{arith}
 use lib.IntN.{ℤ, pos, negsuc, ◌+ℤ◌, ◌-ℤ◌}
 use lib.Signed.{lt_z, le_z}
@@ -26,8 +26,8 @@ use Rattle.source_model.proofs.Maps.{Lawful, numbers_lawful, pairs_lawful, inser
 
 -- an end that an entry brings
 abbrev pub brings_fit : Option SetEnd → Bool
-brings_fit none = true
-brings_fit (some e) = end_fits e
+brings_fit None = true
+brings_fit (Some e) = end_fits e
 
 module _ {I : Type 0} where
   unfoldable pub entry_fits : Entry I → Bool
@@ -92,7 +92,7 @@ module _ {K A : Type 0} {o : Order K} (lo : Lawful o) where
   get_all : (q : A → Bool) (d : A) (k : K) (m : List (K × A)) → q d ≡ true → all (λ x. q x.1) m ≡ true → q (or_default d (get o k m)) ≡ true
   unfolding get all
   get_all q d k [] e h = e
-  get_all q d k (x ∷ m) e h = elim (o.same k x.0) as (λ b. q (or_default d (cond b (some x.1) (get o k m))) ≡ true) [ true ↦ and_left (q x.1) _ h | false ↦ get_all q d k m e (and_right (q x.1) _ h) ]
+  get_all q d k (x ∷ m) e h = elim (o.same k x.0) as (λ b. q (or_default d (cond b (Some x.1) (get o k m))) ≡ true) [ true ↦ and_left (q x.1) _ h | false ↦ get_all q d k m e (and_right (q x.1) _ h) ]
 
   -- what is left behind the first
   rest_above : (x : K × A) (m : List (K × A)) → ascends o (x ∷ m) ≡ true → all (λ y. o.less x.0 y.0) (remove o x.0 (x ∷ m)) ≡ true
@@ -137,8 +137,8 @@ module _ {I : Type 0} where
   member_fits e s h = h
 
   taken_in : (e : Entry I) (a : Option SetEnd) (s : OpenSet I) → brings_fit a ≡ true → set_fits s ≡ true → set_fits (take_in e a s) ≡ true
-  taken_in e (some x) s d h = ended_fits (with_end e.writer e.reader x s) (end_fits_lem e.writer e.reader x s d h)
-  taken_in e none s d h = member_fits e s h
+  taken_in e (Some x) s d h = ended_fits (with_end e.writer e.reader x s) (end_fits_lem e.writer e.reader x s d h)
+  taken_in e None s d h = member_fits e s h
 
   -- ---- offer
 
@@ -159,22 +159,22 @@ module _ {I : Type 0} where
       }
 
   abbrev is_fit : Option (OpenSet I) → Bool
-  is_fit none = true
-  is_fit (some s) = set_fits s
+  is_fit None = true
+  is_fit (Some s) = set_fits s
 
   get_fit : (z : ℤ) (m : List (ℤ × OpenSet I)) → all (λ x. set_fits x.1) m ≡ true → is_fit (get numbers z m) ≡ true
   unfolding get all
   get_fit z [] h = refl
-  get_fit z (x ∷ m) h = elim (numbers.same z x.0) as (λ b. is_fit (cond b (some x.1) (get numbers z m)) ≡ true) [ true ↦ and_left (set_fits x.1) _ h | false ↦ get_fit z m (and_right (set_fits x.1) _ h) ]
+  get_fit z (x ∷ m) h = elim (numbers.same z x.0) as (λ b. is_fit (cond b (Some x.1) (get numbers z m)) ≡ true) [ true ↦ and_left (set_fits x.1) _ h | false ↦ get_fit z m (and_right (set_fits x.1) _ h) ]
 
   join_or_fit : (w : Guid) (r : ℕ) (x : SetEnd) (z : ℤ) (g : Group I) (u : Option (OpenSet I)) → end_fits x ≡ true → is_fit u ≡ true → Fit g → Fit (group_of (join_or w r x z g u))
-  join_or_fit w r x z g none d e h = h
-  join_or_fit w r x z g (some s) d e h = with_sets_lem (insert numbers z (with_end w r x s) g.sets) g (insert_all numbers_lawful (λ x. set_fits x.1) z (with_end w r x s) g.sets (end_fits_lem w r x s d e) h.sets) h
+  join_or_fit w r x z g None d e h = h
+  join_or_fit w r x z g (Some s) d e h = with_sets_lem (insert numbers z (with_end w r x s) g.sets) g (insert_all numbers_lawful (λ x. set_fits x.1) z (with_end w r x s) g.sets (end_fits_lem w r x s d e) h.sets) h
 
   joins_fit : (e : Entry I) (g : Group I) (a : Option SetEnd) (z : Option ℤ) → brings_fit a ≡ true → Fit g → Fit (group_of (joins e g a z))
-  joins_fit e g none z d h = h
-  joins_fit e g (some x) none d h = h
-  joins_fit e g (some x) (some z) d h = join_or_fit e.writer e.reader x z g (get numbers z g.sets) d (get_fit z g.sets h.sets) h
+  joins_fit e g None z d h = h
+  joins_fit e g (Some x) None d h = h
+  joins_fit e g (Some x) (Some z) d h = join_or_fit e.writer e.reader x z g (get numbers z g.sets) d (get_fit z g.sets h.sets) h
 
   offer_to_fit : (e : Entry I) (g : Group I) → lt_z e.info.gsn (pos (2 ^ 63)) ≡ true → entry_fits e ≡ true → Fit g → Fit (group_of (offer_to e g))
   unfolding offer_to entry_fits
@@ -187,8 +187,8 @@ module _ {I : Type 0} where
   -- ---- one turn
 
   drop_fit : (z : ℤ) (l : Loop I) (u : Option (OpenSet I)) → Fit l.group → Fit (drop_if z l u).group
-  drop_fit z l none h = h
-  drop_fit z l (some s) h = with_sets_lem (remove numbers z l.group.sets) l.group (remove_all numbers_lawful (λ x. set_fits x.1) z l.group.sets h.sets) h
+  drop_fit z l None h = h
+  drop_fit z l (Some s) h = with_sets_lem (remove numbers z l.group.sets) l.group (remove_all numbers_lawful (λ x. set_fits x.1) z l.group.sets h.sets) h
 
   drops_fit : (zs : List ℤ) (l : Loop I) → Fit l.group → Fit (drop_all zs l).group
   unfolding drop_all
@@ -197,8 +197,8 @@ module _ {I : Type 0} where
 
   commit_to_fit : (z : Option ℤ) (e : Entry I) (l : Loop I) → brings_fit e.at_end ≡ true → Fit l.group → Fit (commit_to z e l).group
   unfolding entry
-  commit_to_fit none e l d h = h
-  commit_to_fit (some z) e l d h =
+  commit_to_fit None e l d h = h
+  commit_to_fit (Some z) e l d h =
       let s : OpenSet I = or_default no_set (get numbers z l.group.sets) in
       with_sets_lem (insert numbers z (take_in e e.at_end s) l.group.sets) l.group
       (insert_all numbers_lawful (λ x. set_fits x.1) z (take_in e e.at_end s) l.group.sets (taken_in e e.at_end s d (get_all numbers_lawful (λ s. set_fits s) no_set z l.group.sets (no_set_lem I) h.sets)) h.sets) h
@@ -242,8 +242,8 @@ module _ {I : Type 0} where
       (get_all numbers_lawful (λ v. entries_fit v) [] x.0 l.group.pending (nothing_fits I) h.entries) (next_fit x m k l p h)
 
   abbrev Goes : Option (Loop I) → Type 0
-  Goes none = Unit {0}
-  Goes (some m) = Fit m.group
+  Goes None = Unit {0}
+  Goes (Some m) = Fit m.group
 
   take_if_fit : (r y : Bool) (x : ℤ × List (Entry I)) (m : List (ℤ × List (Entry I))) (k : ℕ) (l : Loop I) → l.group.pending ≡ x ∷ m → Fit l.group → Goes (take_if r y x.0 k l)
   take_if_fit true y x m k l p h = taken_fit x m 0 l p h
@@ -265,8 +265,8 @@ module _ {I : Type 0} where
 
   at_fits_lem : (g : Group I) (u : Option (ℤ × OpenSet I)) → Fit g → at_fits g u ≡ true
   unfolding at_fits
-  at_fits_lem g (some x) h = get_all numbers_lawful (λ s. set_fits s) no_set x.0 g.sets (no_set_lem I) h.sets
-  at_fits_lem g none h = heads_fit g g.pending refl h
+  at_fits_lem g (Some x) h = get_all numbers_lawful (λ s. set_fits s) no_set x.0 g.sets (no_set_lem I) h.sets
+  at_fits_lem g None h = heads_fit g g.pending refl h
 
   turn_fits_lem : (l : Loop I) → Fit l.group → turn_fits l ≡ true
   unfolding turn_fits
@@ -284,10 +284,10 @@ module _ {I : Type 0} where
     finish_fit false z s l h = finished_fit s (view.counted key) (all_ends key view now timeout s) (record { group = with_sets (remove numbers z l.group.sets) l.group; out = l.out; counts = l.counts }) (with_sets_lem (remove numbers z l.group.sets) l.group (remove_all numbers_lawful (λ x. set_fits x.1) z l.group.sets h.sets) h)
 
     at_fit : (l : Loop I) (u : Option (ℤ × OpenSet I)) → Fit l.group → Goes (at_ended key view now timeout l u)
-    at_fit l (some x) h =
+    at_fit l (Some x) h =
         let s : OpenSet I = or_default no_set (get numbers x.0 l.group.sets) in
         finish_fit (not (all_ends key view now timeout s) && ltb (waited now (first_of s.members)) timeout) x.0 s l h
-    at_fit l none h = head_fit l l.group.pending refl h
+    at_fit l None h = head_fit l l.group.pending refl h
 
     turn_fit : (l : Loop I) → Fit l.group → Goes (turn key view now timeout l)
     unfolding turn
@@ -296,12 +296,12 @@ module _ {I : Type 0} where
     loop_fit : (k : ℕ) (l : Loop I) → Fit l.group → Fit (release_group key view now timeout k l).group
     unfolding release_group
     loop_fit zero l h = h
-    loop_fit (suc k) l h = (elim (turn key view now timeout l) as (λ u. Goes u → Fit (or_return key view now timeout (λ m. release_group key view now timeout k m) l u).group) [ none ↦ λ g. h | some m ↦ λ g. loop_fit k m g ]) (turn_fit l h)
+    loop_fit (suc k) l h = (elim (turn key view now timeout l) as (λ u. Goes u → Fit (or_return key view now timeout (λ m. release_group key view now timeout k m) l u).group) [ None ↦ λ g. h | Some m ↦ λ g. loop_fit k m g ]) (turn_fit l h)
 
     loop_fits_lem : (k : ℕ) (l : Loop I) → Fit l.group → loop_fits key view now timeout k l ≡ true
     unfolding loop_fits
     loop_fits_lem zero l h = refl
-    loop_fits_lem (suc k) l h = and_true (turn_fits l) _ (turn_fits_lem l h) ((elim (turn key view now timeout l) as (λ u. Goes u → if_goes key view now timeout (λ m. loop_fits key view now timeout k m) u ≡ true) [ none ↦ λ g. refl | some m ↦ λ g. loop_fits_lem k m g ]) (turn_fit l h))
+    loop_fits_lem (suc k) l h = and_true (turn_fits l) _ (turn_fits_lem l h) ((elim (turn key view now timeout l) as (λ u. Goes u → if_goes key view now timeout (λ m. loop_fits key view now timeout k m) u ≡ true) [ None ↦ λ g. refl | Some m ↦ λ g. loop_fits_lem k m g ]) (turn_fit l h))
 
   -- ---- all groups
 
@@ -312,7 +312,7 @@ module _ {I : Type 0} where
   fits_at : (k : Guid) (gs : List (Guid × Group I)) → Fits gs → Fit (or_default no_group (get guids k gs))
   unfolding Fits get
   fits_at k [] h = none_fit
-  fits_at k (x ∷ gs) h = elim (guids.same k x.0) as (λ b. Fit (or_default no_group (cond b (some x.1) (get guids k gs)))) [ true ↦ h.0 | false ↦ fits_at k gs h.1 ]
+  fits_at k (x ∷ gs) h = elim (guids.same k x.0) as (λ b. Fit (or_default no_group (cond b (Some x.1) (get guids k gs)))) [ true ↦ h.0 | false ↦ fits_at k gs h.1 ]
 
   fits_put : (k : Guid) (g : Group I) (gs : List (Guid × Group I)) → Fit g → Fits gs → Fits (insert guids k g gs)
   unfolding Fits insert
@@ -366,17 +366,17 @@ module _ {X : Type 0} where
   offer_fit o x e h = offered_fit o x (number_fits x (and_left (is_i64 x.number) _ e)) (entry_fits_lem x (and_right (is_i64 x.number) _ e)) h
 
   offer_case : (u : Option ℕ) (o : GroupOrder X) (x : Offer X) → is_i64 x.number && what_fits x.what ≡ true → Fits o.groups → Fits (offer_unless u o x).1.groups
-  offer_case (some n) o x e h = h
-  offer_case none o x e h = offer_fit o x e h
+  offer_case (Some n) o x e h = h
+  offer_case None o x e h = offer_fit o x e h
 
   done_case : (u : Option ℕ) (o p : GroupOrder X) → Fits o.groups → Fits p.groups → Fits (done_unless u o p).1.groups
-  done_case (some n) o p h k = h
-  done_case none o p h k = k
+  done_case (Some n) o p h k = h
+  done_case None o p h k = k
 
   release_case : (u : Option ℕ) (turns : ℕ) (o : GroupOrder X) (v : View) (now : ℕ) → Fits o.groups → Fits (release_unless u turns o v now).1.groups
   unfolding release
-  release_case (some n) turns o v now h = h
-  release_case none turns o v now h = each_fit turns (view_of v) now o.timeout o.groups [] o.counts h
+  release_case (Some n) turns o v now h = h
+  release_case None turns o v now h = each_fit turns (view_of v) now o.timeout o.groups [] o.counts h
 
   heartbeat_fit : (o : GroupOrder X) (k w : Guid) (b : HeartbeatInfo) → Fits o.groups → Fits (heartbeat o k w b).groups
   unfolding heartbeat entry

@@ -2,7 +2,7 @@
 use Prim.Native.Nat.{ℕ}
 use mathlib.Core.Path.{◌≡◌, refl}
 use mathlib.Core.List.{List, [], ◌∷◌}
-use mathlib.Core.Option.{some, none}
+use Rattle.std.specs.Prelude.{Some, None}
 use lib.IntN.{pos, negsuc}
 use Rattle.laws.specs.Lists.{keep, all, any, count, find, is_some}
 use Rattle.guids.specs.Guid.{compare_guid, same_guid, before}
@@ -39,14 +39,14 @@ prints t cs = prints_from (new t) cs
 pub worked :
     let rows : View = view (C 1 1 0 ∷ C 1 2 1 ∷ []) (D 1 7 ∷ []) in
     prints 1000
-    (S 1 1 0 (pos 1) (some (pos 1)) 7 50 0 ∷ S 1 2 1 (pos 2) (some (pos 1)) 7 51 0 ∷ E 1 1 0 (pos 3) (some (pos 1)) 7 (some (pos 1)) (some (pos 2)) 0 ∷ R rows 10
-    ∷ E 1 2 1 (pos 3) (some (pos 1)) 7 (some (pos 1)) (some (pos 2)) 10 ∷ R rows 10 ∷ [])
+    (S 1 1 0 (pos 1) (Some (pos 1)) 7 50 0 ∷ S 1 2 1 (pos 2) (Some (pos 1)) 7 51 0 ∷ E 1 1 0 (pos 3) (Some (pos 1)) 7 (Some (pos 1)) (Some (pos 2)) 0 ∷ R rows 10
+    ∷ E 1 2 1 (pos 3) (Some (pos 1)) 7 (Some (pos 1)) (Some (pos 2)) 10 ∷ R rows 10 ∷ [])
     ≡ stored' ∷ stored' ∷ stored' ∷ out' [] 0 0 0 0 ∷ joined' ∷ out' ((0, 50) ∷ (1, 51) ∷ []) 0 0 0 0 ∷ []
 unfolding prints
 worked = refl
 
 -- number 5 alone: held before the timeout, handed out at it with four skipped
-pub skipped_four : prints 1000 (S 1 1 0 (pos 5) none 7 50 0 ∷ R nobody 999 ∷ R nobody 1000 ∷ S 1 1 0 (pos 5) none 7 51 0 ∷ [])
+pub skipped_four : prints 1000 (S 1 1 0 (pos 5) None 7 50 0 ∷ R nobody 999 ∷ R nobody 1000 ∷ S 1 1 0 (pos 5) None 7 51 0 ∷ [])
     ≡ stored' ∷ out' [] 0 0 0 0 ∷ out' ((0, 50) ∷ []) 4 0 0 0 ∷ late' ∷ []
 unfolding prints
 skipped_four = refl
@@ -55,26 +55,26 @@ skipped_four = refl
 pub record Others : Type 0 where
   -- number 3: 1 and 2 are ruled out by a heartbeat that announces it and a gap of the other pair; a later gap and an absent secure digest
   pub ruled_out : prints 1000
-      (S 1 1 0 (pos 3) none 7 50 0 ∷ H 1 1 (pos 1) (pos 0) (pos 3) (some 7) (some 1) ∷ H 1 1 (pos 1) (pos 0) (pos 3) (some 7) none ∷ G 1 2 1 (pos 2) ∷ G 1 2 1 (pos 1)
+      (S 1 1 0 (pos 3) None 7 50 0 ∷ H 1 1 (pos 1) (pos 0) (pos 3) (Some 7) (Some 1) ∷ H 1 1 (pos 1) (pos 0) (pos 3) (Some 7) None ∷ G 1 2 1 (pos 2) ∷ G 1 2 1 (pos 1)
       ∷ R (view (C 1 1 0 ∷ C 1 2 1 ∷ []) (D 1 7 ∷ [])) 0 ∷ [])
       ≡ stored' ∷ ok ∷ ok ∷ ok ∷ ok ∷ out' ((0, 50) ∷ []) 0 0 0 0 ∷ []
   -- another writer's copy is a copy; entries of a number leave in the order of their offers
-  pub copies : prints 1000 (S 1 1 0 (pos 1) none 7 50 0 ∷ S 1 2 1 (pos 1) none 7 51 0 ∷ R (view (C 1 1 0 ∷ C 1 1 1 ∷ []) []) 0 ∷ [])
+  pub copies : prints 1000 (S 1 1 0 (pos 1) None 7 50 0 ∷ S 1 2 1 (pos 1) None 7 51 0 ∷ R (view (C 1 1 0 ∷ C 1 1 1 ∷ []) []) 0 ∷ [])
       ≡ stored' ∷ stored' ∷ out' ((0, 50) ∷ (1, 51) ∷ []) 0 0 0 0 ∷ []
   -- an end without a first number agrees with no members alone
-  pub no_first : prints 1000 (S 1 1 0 (pos 1) (some (pos 1)) 7 50 0 ∷ E 1 1 0 (pos 2) (some (pos 1)) 7 none (some (pos 2)) 0 ∷ R (view (C 1 1 0 ∷ []) []) 0 ∷ [])
+  pub no_first : prints 1000 (S 1 1 0 (pos 1) (Some (pos 1)) 7 50 0 ∷ E 1 1 0 (pos 2) (Some (pos 1)) 7 None (Some (pos 2)) 0 ∷ R (view (C 1 1 0 ∷ []) []) 0 ∷ [])
       ≡ stored' ∷ stored' ∷ out' [] 0 1 1 0 ∷ []
   -- a joining end does not end its set
   pub joined : prints 1000
-      (S 1 1 0 (pos 1) (some (pos 1)) 7 50 0 ∷ R (view (C 1 1 0 ∷ []) []) 0 ∷ E 1 1 0 (pos 1) (some (pos 1)) 7 (some (pos 1)) (some (pos 2)) 0 ∷ R (view (C 1 1 0 ∷ []) []) 0 ∷ [])
+      (S 1 1 0 (pos 1) (Some (pos 1)) 7 50 0 ∷ R (view (C 1 1 0 ∷ []) []) 0 ∷ E 1 1 0 (pos 1) (Some (pos 1)) 7 (Some (pos 1)) (Some (pos 2)) 0 ∷ R (view (C 1 1 0 ∷ []) []) 0 ∷ [])
       ≡ stored' ∷ out' [] 0 0 0 0 ∷ joined' ∷ out' [] 0 0 0 0 ∷ []
   -- an end opens no set
-  pub late_end : prints 1000 (E 1 1 0 (negsuc 0) (some (pos 1)) 7 (some (pos 1)) (some (pos 2)) 0 ∷ R nobody 0 ∷ []) ≡ late' ∷ out' [] 0 0 0 1 ∷ []
+  pub late_end : prints 1000 (E 1 1 0 (negsuc 0) (Some (pos 1)) 7 (Some (pos 1)) (Some (pos 2)) 0 ∷ R nobody 0 ∷ []) ≡ late' ∷ out' [] 0 0 0 1 ∷ []
   -- an ended set is not discarded at the number that ended it
-  pub ended_spared : prints 1000 (S 1 1 0 (pos 1) (some (pos 1)) 7 50 0 ∷ E 1 1 0 (pos 2) (some (pos 1)) 7 (some (pos 1)) (some (pos 2)) 0 ∷ S 1 2 1 (pos 2) none 7 51 0 ∷ R nobody 0 ∷ [])
+  pub ended_spared : prints 1000 (S 1 1 0 (pos 1) (Some (pos 1)) 7 50 0 ∷ E 1 1 0 (pos 2) (Some (pos 1)) 7 (Some (pos 1)) (Some (pos 2)) 0 ∷ S 1 2 1 (pos 2) None 7 51 0 ∷ R nobody 0 ∷ [])
       ≡ stored' ∷ stored' ∷ stored' ∷ out' ((1, 51) ∷ (0, 50) ∷ []) 0 0 0 0 ∷ []
   -- groups in the order of their GUIDs
-  pub both_groups : prints 1000 (S 2 1 0 (pos 1) none 7 60 0 ∷ S 1 1 0 (pos 1) none 7 50 0 ∷ R nobody 0 ∷ []) ≡ stored' ∷ stored' ∷ out' ((0, 50) ∷ (0, 60) ∷ []) 0 0 0 0 ∷ []
+  pub both_groups : prints 1000 (S 2 1 0 (pos 1) None 7 60 0 ∷ S 1 1 0 (pos 1) None 7 50 0 ∷ R nobody 0 ∷ []) ≡ stored' ∷ stored' ∷ out' ((0, 50) ∷ (0, 60) ∷ []) 0 0 0 0 ∷ []
 
 pub others : Others
 unfolding prints

@@ -1,6 +1,6 @@
 -- The calls of document 01 on the model: its refusals around the functions of the source, and what a call answers.
 use Rattle.std.specs.Prelude.{ℕ, ◌+◌, Bool, true, false, ◌&&◌, not, List, [], ◌∷◌, map, ℤ, ltb, leb, length}
-use Rattle.std.proofs.Math.Option.{Option, some, none}
+use Rattle.std.specs.Prelude.{Option, Some, None}
 use Rattle.laws.specs.Lists.{keep, count, is_some}
 use Rattle.guids.specs.Guid.{Guid, same_guid}
 use Rattle.rules.specs.Entry.{What, sample, set_end}
@@ -14,12 +14,12 @@ use Rattle.source_model.specs.Source.{SetEnd, Info, Entry, HeartbeatInfo, no_set
 
 -- an offer brings a sample or an end, never both
 abbrev pub end_w : {X : Type 0} → What X → Option SetEnd
-end_w (sample x) = none
-end_w (set_end f o) = some (record { first_sn = f; ecs_sn = o })
+end_w (sample x) = None
+end_w (set_end f o) = Some (record { first_sn = f; ecs_sn = o })
 
 abbrev pub item_w : {X : Type 0} → What X → Option X
-item_w (sample x) = some x
-item_w (set_end f o) = none
+item_w (sample x) = Some x
+item_w (set_end f o) = None
 
 unfoldable pub info_of : Heartbeat → HeartbeatInfo
 info_of h = record { first_gsn = h.first; last_gsn = h.last; current_gsn = h.current; writer_set = h.digest; secure_writer_set = h.secure }
@@ -28,8 +28,8 @@ info_of h = record { first_gsn = h.first; last_gsn = h.last; current_gsn = h.cur
 unfoldable pub view_of : View → GroupView
 view_of v = record {
   counted = λ g. collect pairs (map (λ p. (p.writer, p.reader)) (keep (λ p. same_guid g p.group) v.counted));
-  writer_set_is_discovered = λ g d. accepted g v.digests (some d);
-  secure_writer_set_is_discovered = λ g d. secure_accepted (some d);
+  writer_set_is_discovered = λ g d. accepted g v.digests (Some d);
+  secure_writer_set_is_discovered = λ g d. secure_accepted (Some d);
 }
 
 -- what a call answers: a release with the readers and items that it hands out, in order
@@ -76,8 +76,8 @@ module _ {X : Type 0} where
 
   -- the pair has no end yet in the set
   abbrev pub new_end : Entry X → Group X → Option ℤ → Bool
-  new_end e g none = false
-  new_end e g (some z) = not (is_some (get pairs (e.writer, e.reader) (or_default no_set (get numbers z g.sets)).ends))
+  new_end e g None = false
+  new_end e g (Some z) = not (is_some (get pairs (e.writer, e.reader) (or_default no_set (get numbers z g.sets)).ends))
 
   abbrev pub adds : Did X → Entry X → Group X → Bool
   adds (did_push h) e g = true
@@ -91,16 +91,16 @@ module _ {X : Type 0} where
       ∷ (4, adds (offer_does o x.group (entry_of x) x.digest) (entry_of x) (group_at x.group o) && leb 256 (stored o)) ∷ [])
 
   abbrev pub offer_unless : Option ℕ → GroupOrder X → Offer X → Told X × GroupOrder X
-  offer_unless (some n) o x = (told_refused n, o)
-  offer_unless none o x = (told_offered (fate_of (offer_does o x.group (entry_of x) x.digest)), offer o x.group x.writer x.reader (group_info x) (end_w x.what) (item_w x.what) x.time)
+  offer_unless (Some n) o x = (told_refused n, o)
+  offer_unless None o x = (told_offered (fate_of (offer_does o x.group (entry_of x) x.digest)), offer o x.group x.writer x.reader (group_info x) (end_w x.what) (item_w x.what) x.time)
 
   abbrev pub done_unless : Option ℕ → GroupOrder X → GroupOrder X → Told X × GroupOrder X
-  done_unless (some n) o p = (told_refused n, o)
-  done_unless none o p = (told_done, p)
+  done_unless (Some n) o p = (told_refused n, o)
+  done_unless None o p = (told_done, p)
 
   abbrev pub release_unless : Option ℕ → ℕ → GroupOrder X → View → ℕ → Told X × GroupOrder X
-  release_unless (some n) turns o v now = (told_refused n, o)
-  release_unless none turns o v now =
+  release_unless (Some n) turns o v now = (told_refused n, o)
+  release_unless None turns o v now =
       let r : List (ℕ × X) × GroupOrder X = release turns o (view_of v) now in
       (told_released r.0, r.1)
 

@@ -1,6 +1,6 @@
 -- BTreeMap and BTreeSet: lists in ascending order of their keys, each key once.
 use Rattle.std.specs.Prelude.{ℕ, Bool, true, ◌&&◌, ◌||◌, not, cond, List, [], ◌∷◌, ℤ, ltb, eqb}
-use Rattle.std.proofs.Math.Option.{Option, some, none}
+use Rattle.std.specs.Prelude.{Option, Some, None}
 use Rattle.std.specs.Int.Signed.{lt_z}
 use Rattle.laws.specs.Whole.{eq_z}
 use Rattle.laws.specs.Lists.{keep, all}
@@ -28,14 +28,14 @@ pairs = record {
 }
 
 abbrev pub or_default : {A : Type 0} → A → Option A → A
-or_default d none = d
-or_default d (some v) = v
+or_default d None = d
+or_default d (Some v) = v
 
 module _ {K A : Type 0} (o : Order K) where
   -- get
   unfoldable pub get : K → List (K × A) → Option A
-  get k [] = none
-  get k (x ∷ m) = cond (o.same k x.0) (some x.1) (get k m)
+  get k [] = None
+  get k (x ∷ m) = cond (o.same k x.0) (Some x.1) (get k m)
 
   -- insert: the value of the key, replaced where it is there
   unfoldable pub insert : K → A → List (K × A) → List (K × A)

@@ -4,7 +4,7 @@
 -- the end of a pair that is absent from a set does not agree (the source asks only where all ends are there: proofs/Unasked.antt);
 -- `offer` also says what it did (Did); readers and digests are numbers, and a time is a number of nanoseconds.
 use Rattle.std.specs.Prelude.{ℕ, zero, suc, ◌+◌, ◌-◌, Bool, true, false, ◌&&◌, ◌||◌, not, cond, List, [], ◌∷◌, ◌++◌, map, ℤ, pos, negsuc, ◌+ℤ◌, ◌-ℤ◌, ltb, eqb, length}
-use Rattle.std.proofs.Math.Option.{Option, some, none}
+use Rattle.std.specs.Prelude.{Option, Some, None}
 use Rattle.std.specs.Int.Signed.{lt_z, le_z}
 use Rattle.laws.specs.Whole.{eq_z}
 use Rattle.laws.specs.Lists.{keep, all, any, count, find, is_some}
@@ -49,12 +49,12 @@ pub record Progress : Type 0 where
 
 -- WriterProgress::default
 unfoldable pub no_progress : Progress
-no_progress = record { seen = []; heartbeat = none; gap_end = []; writer_set = none; secure_writer_set = none }
+no_progress = record { seen = []; heartbeat = None; gap_end = []; writer_set = None; secure_writer_set = None }
 
 -- is_some_and
 abbrev pub is_some_and : {A : Type 0} → (A → Bool) → Option A → Bool
-is_some_and p none = false
-is_some_and p (some v) = p v
+is_some_and p None = false
+is_some_and p (Some v) = p v
 
 -- WriterProgress::is_past
 unfoldable pub is_past : Progress → ℕ → ℤ → Bool
@@ -115,8 +115,8 @@ sum_of f (a ∷ l) = f a + sum_of f l
 
 -- Some(a) == s
 abbrev pub is_that : ℤ → Option ℤ → Bool
-is_that a none = false
-is_that a (some b) = eq_z a b
+is_that a None = false
+is_that a (Some b) = eq_z a b
 
 -- what the writer's progress becomes
 unfoldable pub sees : ℕ → ℤ → ℕ → Progress → Progress
@@ -124,7 +124,7 @@ sees reader gsn writer_set p = record {
   seen = entry readers (pos 0) reader (λ s. max_z s gsn) p.seen;
   heartbeat = p.heartbeat;
   gap_end = p.gap_end;
-  writer_set = some writer_set;
+  writer_set = Some writer_set;
   secure_writer_set = p.secure_writer_set;
 }
 
@@ -132,13 +132,13 @@ unfoldable pub late : ReleaseCounts → ReleaseCounts
 late c = record { skipped_after_timeout = c.skipped_after_timeout; incomplete_sets = c.incomplete_sets; discarded_samples = c.discarded_samples; late_samples = c.late_samples + 1 }
 
 abbrev pub or_keep : Option ℕ → Option ℕ → Option ℕ
-or_keep none d = d
-or_keep (some n) d = some n
+or_keep None d = d
+or_keep (Some n) d = Some n
 
 unfoldable pub heard : HeartbeatInfo → Progress → Progress
 heard hb p = record {
   seen = p.seen;
-  heartbeat = some hb;
+  heartbeat = Some hb;
   gap_end = p.gap_end;
   writer_set = or_keep hb.writer_set p.writer_set;
   secure_writer_set = hb.secure_writer_set;
@@ -168,17 +168,17 @@ discarding k c = record { skipped_after_timeout = c.skipped_after_timeout; incom
 
 -- match (end.first_sn, end.ecs_sn)
 abbrev pub agrees_with : ℕ → Option ℤ → Option ℤ → Bool
-agrees_with got (some first) (some ecs) = eq_z (pos got) (ecs -ℤ first)
-agrees_with got none ecs = eqb got 0
-agrees_with got (some first) none = true
+agrees_with got (Some first) (Some ecs) = eq_z (pos got) (ecs -ℤ first)
+agrees_with got None ecs = eqb got 0
+agrees_with got (Some first) None = true
 
 unfoldable pub skips : ℕ → ReleaseCounts → ReleaseCounts
 skips k c = record { skipped_after_timeout = c.skipped_after_timeout + k; incomplete_sets = c.incomplete_sets; discarded_samples = c.discarded_samples; late_samples = c.late_samples }
 
 -- v.first()
 abbrev pub first_of : {A : Type 0} → List A → Option A
-first_of [] = none
-first_of (a ∷ l) = some a
+first_of [] = None
+first_of (a ∷ l) = Some a
 
 module _ {I : Type 0} where
   -- GroupOrder::new
@@ -240,14 +240,14 @@ pub data Did (I : Type 0) : Type 0 where
 module _ {I : Type 0} where
   -- if let Some(set) = g.sets.get_mut(&first)
   abbrev pub join_or : Guid → ℕ → SetEnd → ℤ → Group I → Option (OpenSet I) → Did I
-  join_or writer reader e first g none = did_count g
-  join_or writer reader e first g (some s) = did_join (with_sets (insert numbers first (with_end writer reader e s) g.sets) g)
+  join_or writer reader e first g None = did_count g
+  join_or writer reader e first g (Some s) = did_join (with_sets (insert numbers first (with_end writer reader e s) g.sets) g)
 
   -- if let (Some(end), Some(first)) = (end, info.coherent_set_gsn)
   abbrev pub joins : Entry I → Group I → Option SetEnd → Option ℤ → Did I
-  joins e g none s = did_count g
-  joins e g (some x) none = did_count g
-  joins e g (some x) (some first) = join_or e.writer e.reader x first g (get numbers first g.sets)
+  joins e g None s = did_count g
+  joins e g (Some x) None = did_count g
+  joins e g (Some x) (Some first) = join_or e.writer e.reader x first g (get numbers first g.sets)
 
   -- the rest of offer, once the progress is told
   unfoldable pub offer_to : Entry I → Group I → Did I
@@ -312,8 +312,8 @@ module _ {I : Type 0} where
       (λ gsn. all (λ c. is_some_and (λ p. is_past p c.1 gsn) (get guids c.0 g.writers)) (view.counted key))
 
   abbrev pub copies_in : Guid → Group I → GroupView → ℤ → Option (List (Entry I)) → Bool
-  copies_in key g view gsn none = true
-  copies_in key g view gsn (some entries) =
+  copies_in key g view gsn None = true
+  copies_in key g view gsn (Some entries) =
       all
       (λ e. all
       (λ c. not (same_guid e.writer c.0) || any (λ other. eqb c.1 other.reader) entries
@@ -341,16 +341,16 @@ module _ {I : Type 0} where
 
   -- match e.end
   abbrev pub take_in : Entry I → Option SetEnd → OpenSet I → OpenSet I
-  take_in e (some x) s = ended (with_end e.writer e.reader x s)
-  take_in e none s = with_member e s
+  take_in e (Some x) s = ended (with_end e.writer e.reader x s)
+  take_in e None s = with_member e s
 
   abbrev pub push_item : ℕ → Option I → List (ℕ × I) → List (ℕ × I)
-  push_item reader none out = out
-  push_item reader (some i) out = out ++ ((reader, i) ∷ [])
+  push_item reader None out = out
+  push_item reader (Some i) out = out ++ ((reader, i) ∷ [])
 
   abbrev pub commit_to : Option ℤ → Entry I → Loop I → Loop I
-  commit_to (some first) e l = record { group = with_sets (entry numbers no_set first (λ s. take_in e e.at_end s) l.group.sets) l.group; out = l.out; counts = l.counts }
-  commit_to none e l = record { group = l.group; out = push_item e.reader e.item l.out; counts = l.counts }
+  commit_to (Some first) e l = record { group = with_sets (entry numbers no_set first (λ s. take_in e e.at_end s) l.group.sets) l.group; out = l.out; counts = l.counts }
+  commit_to None e l = record { group = l.group; out = push_item e.reader e.item l.out; counts = l.counts }
 
   unfoldable pub commit : Entry I → Loop I → Loop I
   commit e l = commit_to e.info.coherent_set_gsn e l
@@ -359,8 +359,8 @@ module _ {I : Type 0} where
 
   -- filter_map(|m| m.item.map(|item| (m.reader, item)))
   abbrev pub item_of : Option I → ℕ → List (ℕ × I) → List (ℕ × I)
-  item_of none r l = l
-  item_of (some i) r l = (r, i) ∷ l
+  item_of None r l = l
+  item_of (Some i) r l = (r, i) ∷ l
 
   unfoldable pub items : List (Entry I) → List (ℕ × I)
   items [] = []
@@ -389,8 +389,8 @@ module _ {I : Type 0} where
   stale e sets = map (λ x. x.0) (keep (λ x. not x.1.end_committed && not (is_that x.0 e.info.coherent_set_gsn)) sets)
 
   abbrev pub drop_if : ℤ → Loop I → Option (OpenSet I) → Loop I
-  drop_if first l none = l
-  drop_if first l (some set) = record { group = with_sets (remove numbers first l.group.sets) l.group; out = l.out; counts = discarding (length set.members) l.counts }
+  drop_if first l None = l
+  drop_if first l (Some set) = record { group = with_sets (remove numbers first l.group.sets) l.group; out = l.out; counts = discarding (length set.members) l.counts }
 
   unfoldable pub drop_all : List ℤ → Loop I → Loop I
   drop_all [] l = l
@@ -403,8 +403,8 @@ module _ {I : Type 0} where
 
   -- map_or(ZERO, now.saturating_sub(e.offered_at))
   abbrev pub waited : ℕ → Option (Entry I) → ℕ
-  waited now none = 0
-  waited now (some e) = now - e.offered_at
+  waited now None = 0
+  waited now (Some e) = now - e.offered_at
 
   -- committed becomes next; its entries leave pending
   unfoldable pub taken : ℤ → ℕ → Loop I → Loop I
@@ -424,17 +424,17 @@ module _ {I : Type 0} where
   take_next next k l = commit_each (or_default [] (get numbers next l.group.pending)) (taken next k l)
 
   abbrev pub take_if : Bool → Bool → ℤ → ℕ → Loop I → Option (Loop I)
-  take_if true young next k l = some (take_next next 0 l)
-  take_if false true next k l = none
-  take_if false false next k l = some (take_next next k l)
+  take_if true young next k l = Some (take_next next 0 l)
+  take_if false true next k l = None
+  take_if false false next k l = Some (take_next next k l)
 
   module _ (key : Guid) (view : GroupView) (now timeout : ℕ) where
     unfoldable pub is_ready : Group I → ℤ → ℤ → Bool
     is_ready g missing next = (eq_z next missing || passable key g view missing next) && copies_arrived key g view next
 
     abbrev pub at_head : Loop I → Option (ℤ × List (Entry I)) → Option (Loop I)
-    at_head l none = none
-    at_head l (some x) =
+    at_head l None = None
+    at_head l (Some x) =
         take_if (is_ready l.group (l.group.committed +ℤ pos 1) x.0)
         (ltb (waited now (first_of (or_default [] (get numbers x.0 l.group.pending)))) timeout)
         x.0 (as_u64 (x.0 -ℤ (l.group.committed +ℤ pos 1))) l
@@ -443,25 +443,25 @@ module _ {I : Type 0} where
     all_ends set = all (λ pair. is_some (get pairs pair set.ends)) (view.counted key)
 
     abbrev pub finish_or : Bool → ℤ → OpenSet I → Loop I → Option (Loop I)
-    finish_or true first set l = none
+    finish_or true first set l = None
     finish_or false first set l =
-        some
+        Some
         (finish_set set (view.counted key) (all_ends set)
         (record { group = with_sets (remove numbers first l.group.sets) l.group; out = l.out; counts = l.counts }))
 
     abbrev pub at_ended : Loop I → Option (ℤ × OpenSet I) → Option (Loop I)
-    at_ended l (some x) =
+    at_ended l (Some x) =
         let set : OpenSet I = or_default no_set (get numbers x.0 l.group.sets) in
         finish_or (not (all_ends set) && ltb (waited now (first_of set.members)) timeout) x.0 set l
-    at_ended l none = at_head l (first_of l.group.pending)
+    at_ended l None = at_head l (first_of l.group.pending)
 
     -- one turn of the loop; none: return
     unfoldable pub turn : Loop I → Option (Loop I)
     turn l = at_ended l (find (λ x. x.1.end_committed) l.group.sets)
 
     abbrev pub or_return : (Loop I → Loop I) → Loop I → Option (Loop I) → Loop I
-    or_return go l none = l
-    or_return go l (some m) = go m
+    or_return go l None = l
+    or_return go l (Some m) = go m
 
     unfoldable pub release_group : ℕ → Loop I → Loop I
     release_group zero l = l

@@ -1,7 +1,7 @@
 -- 64 bits: the numbers that group_order.rs computes, at every turn of a release's loop. All other arithmetic of it is max, comparisons,
 -- saturating differences of times, lengths of a Vec, and sums of counts (demand 2 covers runs in which these stay below 2^64: `below`).
 use Rattle.std.specs.Prelude.{ℕ, zero, suc, ◌-◌, ◌^◌, Bool, true, ◌&&◌, List, [], ◌∷◌, ℤ, pos, negsuc, ◌+ℤ◌, ◌-ℤ◌}
-use Rattle.std.proofs.Math.Option.{Option, some, none}
+use Rattle.std.specs.Prelude.{Option, Some, None}
 use Rattle.std.specs.Int.Signed.{lt_z, le_z}
 use Rattle.laws.specs.Lists.{all, find}
 use Rattle.guids.specs.Guid.{Guid}
@@ -17,9 +17,9 @@ is_i64 z = le_z (negsuc (2 ^ 63 - 1)) z && lt_z z (pos (2 ^ 63))
 
 -- ecs − first
 abbrev pub distance_fits : Option ℤ → Option ℤ → Bool
-distance_fits none o = true
-distance_fits (some f) none = true
-distance_fits (some f) (some o) = is_i64 (o -ℤ f)
+distance_fits None o = true
+distance_fits (Some f) None = true
+distance_fits (Some f) (Some o) = is_i64 (o -ℤ f)
 
 unfoldable pub end_fits : SetEnd → Bool
 end_fits e = distance_fits e.first_sn e.ecs_sn
@@ -27,8 +27,8 @@ end_fits e = distance_fits e.first_sn e.ecs_sn
 module _ {I : Type 0} where
   -- committed + 1, and next − missing, which is not negative
   unfoldable pub head_fits : Group I → Option (ℤ × List (Entry I)) → Bool
-  head_fits g none = true
-  head_fits g (some x) = is_i64 (g.committed +ℤ pos 1) && is_i64 (x.0 -ℤ (g.committed +ℤ pos 1)) && le_z (g.committed +ℤ pos 1) x.0
+  head_fits g None = true
+  head_fits g (Some x) = is_i64 (g.committed +ℤ pos 1) && is_i64 (x.0 -ℤ (g.committed +ℤ pos 1)) && le_z (g.committed +ℤ pos 1) x.0
 
   -- ecs − first of every end of the set
   unfoldable pub set_fits : OpenSet I → Bool
@@ -36,16 +36,16 @@ module _ {I : Type 0} where
 
   -- what a turn computes: at an ended set its distances, else at the next number
   unfoldable pub at_fits : Group I → Option (ℤ × OpenSet I) → Bool
-  at_fits g (some x) = set_fits (or_default no_set (get numbers x.0 g.sets))
-  at_fits g none = head_fits g (first_of g.pending)
+  at_fits g (Some x) = set_fits (or_default no_set (get numbers x.0 g.sets))
+  at_fits g None = head_fits g (first_of g.pending)
 
   unfoldable pub turn_fits : Loop I → Bool
   turn_fits l = at_fits l.group (find (λ x. x.1.end_committed) l.group.sets)
 
   module _ (key : Guid) (view : GroupView) (now timeout : ℕ) where
     abbrev pub if_goes : (Loop I → Bool) → Option (Loop I) → Bool
-    if_goes go none = true
-    if_goes go (some m) = go m
+    if_goes go None = true
+    if_goes go (Some m) = go m
 
     -- every turn of a loop
     unfoldable pub loop_fits : ℕ → Loop I → Bool

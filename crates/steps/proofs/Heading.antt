@@ -3,7 +3,7 @@ use Prim.Native.Nat.{ℕ, suc, ◌+◌, ◌<◌, ◌≤◌}
 use mathlib.Core.Path.{◌≡◌, ap, ◌∙◌}
 use mathlib.Core.Bool.{true, not}
 use mathlib.Core.List.{List}
-use mathlib.Core.Option.{some}
+use Rattle.std.specs.Prelude.{Some}
 use native.Mathlib.Omega.{arith}
 use lib.Dec.{eqb}
 use lib.ListN.{get_or, drop}
@@ -31,7 +31,7 @@ pub record Going (g : Guid) (n : ℕ) (list : List ℕ) (j : ℕ) (s t : Spot) :
   pub least : above (λ p. p.entry.number) n (sorted g (placed 0 (rows_in t.rows t.words))) ≡ true
 
 module _ (g : Guid) (n : ℕ) (list : List ℕ) where
-  pub going_start : (j : ℕ) (l : List ℕ) (r : ℕ) (o : List ℕ) (to : ℕ) → Fit (spot l r o to) → Listed g list j r l → lowest_number (keep (λ e. of_group g e) (staged 0 (rows_in r l))) ≡ some n → Going g n list j (spot l r o to) (spot l r o to)
+  pub going_start : (j : ℕ) (l : List ℕ) (r : ℕ) (o : List ℕ) (to : ℕ) → Fit (spot l r o to) → Listed g list j r l → lowest_number (keep (λ e. of_group g e) (staged 0 (rows_in r l))) ≡ Some n → Going g n list j (spot l r o to) (spot l r o to)
   unfolding count
   going_start j l r o to f x e =
       let b = fit_rows (spot l r o to) f in
@@ -61,8 +61,8 @@ module _ (g : Guid) (n : ℕ) (list : List ℕ) where
 
       -- one more of the number
       module _ (k : ℕ) (q : k ≡ get_or list j 0) (e : number_of l (get_or list j 0) ≡ n) where
-        row : k ≡ head_at g (some n) (rows_in r l)
-        row = q ∙ first_row g r l few (get_or list j 0) (drop (suc j) list) one ∙ ap (λ m. head_at g (some m) (rows_in r l)) e
+        row : k ≡ head_at g (Some n) (rows_in r l)
+        row = q ∙ first_row g r l few (get_or list j 0) (drop (suc j) list) one ∙ ap (λ m. head_at g (Some m) (rows_in r l)) e
 
         inside : k < r
         inside = omega (arith, q, first_in g r l few (get_or list j 0) (drop (suc j) list) one)

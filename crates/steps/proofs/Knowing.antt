@@ -3,7 +3,7 @@ use Prim.Native.Nat.{ℕ}
 use mathlib.Core.Path.{◌≡◌, refl, sym, ap, ap₂, ◌∙◌}
 use mathlib.Core.Bool.{Bool, true, false, ◌&&◌, ◌||◌, not, cond}
 use mathlib.Core.List.{List, [], ◌∷◌, ◌++◌}
-use mathlib.Core.Option.{Option, some, none}
+use Rattle.std.specs.Prelude.{Option, Some, None}
 use native.Mathlib.Omega.{arith}
 use lib.IntN.{ℤ}
 use lib.ListN.{length}
@@ -30,19 +30,19 @@ use Rattle.steps.proofs.Lowest.{times_none, times_stop}
 
 -- ---- no set number among fewer entries either
 
-no_less : (s x : Option ℤ) → lesser s x ≡ none → (s ≡ none) × (x ≡ none)
+no_less : (s x : Option ℤ) → lesser s x ≡ None → (s ≡ None) × (x ≡ None)
 unfolding is_some
-no_less none x e = (refl, e)
-no_less (some a) none e = not_both false (ap is_some (sym e)) refl
-no_less (some a) (some b) e = not_both false (ap is_some (sym e)) refl
+no_less None x e = (refl, e)
+no_less (Some a) None e = not_both false (ap is_some (sym e)) refl
+no_less (Some a) (Some b) e = not_both false (ap is_some (sym e)) refl
 
-fewer : (p : Entry ℕ → Bool) (l : List (Entry ℕ)) → lowest_set l ≡ none → lowest_set (keep p l) ≡ none
+fewer : (p : Entry ℕ → Bool) (l : List (Entry ℕ)) → lowest_set l ≡ None → lowest_set (keep p l) ≡ None
 unfolding lowest_set keep
 fewer p [] e = refl
 fewer p (a ∷ l) e =
     let d = no_less a.set (lowest_set l) e in
     let ih = fewer p l d.1 in
-    elim (p a) as (λ b. lowest_set (cond b (a ∷ keep p l) (keep p l)) ≡ none) [
+    elim (p a) as (λ b. lowest_set (cond b (a ∷ keep p l) (keep p l)) ≡ None) [
       | true ↦ ap (λ s. lesser s (lowest_set (keep p l))) d.0 ∙ ih
       | false ↦ ih
     ]
@@ -71,11 +71,11 @@ turned p q l = keep_keep p q l ∙ keep_same (λ x. q x && p x) (λ x. p x && q 
 
 -- ---- no set is ended
 
-module _ (g : Guid) (e : Entry ℕ) (w : Work ℕ) (h : lowest_ended g w.held ≡ none) (s : plain e ≡ true) where
-  discarded_none : lowest_ended g (discard_stale (length w.held) e w).held ≡ none
+module _ (g : Guid) (e : Entry ℕ) (w : Work ℕ) (h : lowest_ended g w.held ≡ None) (s : plain e ≡ true) where
+  discarded_none : lowest_ended g (discard_stale (length w.held) e w).held ≡ None
   unfolding lowest_ended discard without
   discarded_none =
-      stale_keeps (λ v. lowest_ended g v.held ≡ none) e
+      stale_keeps (λ v. lowest_ended g v.held ≡ None) e
       (λ z v d. ap lowest_set (turned (λ x. of_group g x && marks x) (λ x. not (in_set e.group z x)) v.held) ∙ fewer (λ x. not (in_set e.group z x)) (keep (λ x. of_group g x && marks x) v.held) d)
       (length w.held) w h
 
@@ -83,13 +83,13 @@ module _ (g : Guid) (e : Entry ℕ) (w : Work ℕ) (h : lowest_ended g w.held �
   unfolding plain
   unmarked = not_not (marks e) (and_right (is_sample e) (not (marks e)) s)
 
-  settled_none : (v : Work ℕ) (x : What ℕ) (z : Option ℤ) → is_sample_w x ≡ true → lowest_ended g v.held ≡ none → lowest_ended g (settle e v x z).held ≡ none
+  settled_none : (v : Work ℕ) (x : What ℕ) (z : Option ℤ) → is_sample_w x ≡ true → lowest_ended g v.held ≡ None → lowest_ended g (settle e v x z).held ≡ None
   unfolding lowest_ended with_held with_out
-  settled_none v (sample x) none t d = d
-  settled_none v (sample x) (some z) t d = ap lowest_set (keep_last (λ y. of_group g y && marks y) v.held e (and_never (of_group g e) (marks e) unmarked)) ∙ d
+  settled_none v (sample x) None t d = d
+  settled_none v (sample x) (Some z) t d = ap lowest_set (keep_last (λ y. of_group g y && marks y) v.held e (and_never (of_group g e) (marks e) unmarked)) ∙ d
   settled_none v (set_end f o) z t d = not_both false t refl
 
-  pub quiet_stays : lowest_ended g (commit_one e w).held ≡ none
+  pub quiet_stays : lowest_ended g (commit_one e w).held ≡ None
   unfolding commit_one plain is_sample
   quiet_stays = settled_none (discard_stale (length w.held) e w) e.what e.set (and_left (is_sample e) (not (marks e)) s) discarded_none
 
@@ -123,22 +123,22 @@ or_right : (a b : Bool) → a || b ≡ false → b ≡ false
 or_right true b e = not_both true refl e
 or_right false b e = e
 
-pub set_is : (z : ℤ) (o : Option ℤ) → is_set z o ≡ true → some z ≡ o
-set_is z none e = not_both false e refl
-set_is z (some y) e = ap some (eq_z_eq z y e)
+pub set_is : (z : ℤ) (o : Option ℤ) → is_set z o ≡ true → Some z ≡ o
+set_is z None e = not_both false e refl
+set_is z (Some y) e = ap Some (eq_z_eq z y e)
 
 -- a test that fewer pass
-fewer_pass : (p q : Entry ℕ → Bool) → ((x : Entry ℕ) → q x ≡ true → p x ≡ true) → (l : List (Entry ℕ)) → lowest_set (keep p l) ≡ none → lowest_set (keep q l) ≡ none
+fewer_pass : (p q : Entry ℕ → Bool) → ((x : Entry ℕ) → q x ≡ true → p x ≡ true) → (l : List (Entry ℕ)) → lowest_set (keep p l) ≡ None → lowest_set (keep q l) ≡ None
 fewer_pass p q h l e =
     ap lowest_set (keep_same q (λ x. p x && q x) (λ x. within (q x) (p x) (h x)) l ∙ sym (keep_keep q p l)) ∙ fewer q (keep p l) e
 
 -- of two equal set numbers
 set_eq : (a b : Option ℤ) → same_set a b ≡ true → a ≡ b
-set_eq none b e = not_both false e refl
-set_eq (some z) b e = set_is z b e
+set_eq None b e = not_both false e refl
+set_eq (Some z) b e = set_is z b e
 
-set_same : (z : ℤ) (a : Option ℤ) → a ≡ some z → same_set a (some z) ≡ true
-set_same z a e = ap (λ x. same_set x (some z)) e ∙ same_eq_z z
+set_same : (z : ℤ) (a : Option ℤ) → a ≡ Some z → same_set a (Some z) ≡ true
+set_same z a e = ap (λ x. same_set x (Some z)) e ∙ same_eq_z z
 
 -- h's set is ended among fewer entries too, where none of those that leave is of it
 still_ended : (h : Entry ℕ) (stays : Entry ℕ → Bool) → ((m : Entry ℕ) → shares h m ≡ true → stays m ≡ true) → (l : List (Entry ℕ))
@@ -151,11 +151,11 @@ not_it : (b : Bool) → b ≡ false → not b ≡ true
 not_it b e = ap not e
 
 -- no set at all is open and not ended: none but any other is
-pub covers_all : (set : Option ℤ) → Covers none set
+pub covers_all : (set : Option ℤ) → Covers None set
 unfolding lowest_stale is_stale
 covers_all set = record {
   stale = λ g l x e p q.
-      let e0 : Entry ℕ = record { group = e.group; writer = e.writer; reader = e.reader; number = e.number; set = none; what = e.what; time = e.time; ended = e.ended } in
+      let e0 : Entry ℕ = record { group = e.group; writer = e.writer; reader = e.reader; number = e.number; set = None; what = e.what; time = e.time; ended = e.ended } in
       sym (fewer_pass (λ h. is_stale e0 l h) (λ h. is_stale e l h)
       (λ h k. weaker (of_group e.group h) (not (any (λ m. shares h m && marks m) l)) (not (same_set e.set h.set)) k) l (sym (x e0 p refl)));
 }
@@ -174,11 +174,11 @@ module _ (e : Entry ℕ) where
       let b = any (λ m. shares h m && marks m) (e ∷ []) in
       earlier a b c d (sym (ap (λ t. c && not t && d) (any_append (λ m. shares h m && marks m) l (e ∷ []))) ∙ k)
 
-  own_fresh : (z : ℤ) (l : List (Entry ℕ)) → e.set ≡ some z → is_stale e l e ≡ false
+  own_fresh : (z : ℤ) (l : List (Entry ℕ)) → e.set ≡ Some z → is_stale e l e ≡ false
   unfolding is_stale
   own_fresh z l q = last_false (of_group e.group e) (not (any (λ m. shares e m && marks m) l)) (not (same_set e.set e.set)) (ap not (ap (λ o. same_set o o) q ∙ same_eq_z z))
 
-  joined_clean : (z : ℤ) (l : List (Entry ℕ)) → e.set ≡ some z → lowest_stale e l ≡ none → lowest_stale e (l ++ (e ∷ [])) ≡ none
+  joined_clean : (z : ℤ) (l : List (Entry ℕ)) → e.set ≡ Some z → lowest_stale e l ≡ None → lowest_stale e (l ++ (e ∷ [])) ≡ None
   unfolding lowest_stale
   joined_clean z l q d =
       ap lowest_set (keep_last (λ h. is_stale e (l ++ (e ∷ [])) h) l e (own_fresh z (l ++ (e ∷ [])) q))
@@ -186,7 +186,7 @@ module _ (e : Entry ℕ) where
 
 -- ---- a kept end marks its set, and no other loses its marks
 
-module _ (e : Entry ℕ) (z : ℤ) (s : e.set ≡ some z) (m : Option ℕ) (is : is_some m ≡ true) (l : List (Entry ℕ)) (e0 : Entry ℕ) (g0 : e0.group ≡ e.group) (s0 : e0.set ≡ none) where
+module _ (e : Entry ℕ) (z : ℤ) (s : e.set ≡ Some z) (m : Option ℕ) (is : is_some m ≡ true) (l : List (Entry ℕ)) (e0 : Entry ℕ) (g0 : e0.group ≡ e.group) (s0 : e0.set ≡ None) where
   abbrev kept : List (Entry ℕ)
   kept = keep (λ h. not (replaced e h)) l
 
@@ -207,7 +207,7 @@ module _ (e : Entry ℕ) (z : ℤ) (s : e.set ≡ some z) (m : Option ℕ) (is :
     parts : any (λ y. shares h y && marks y) kept || any (λ y. shares h y && marks y) (marked m e ∷ []) ≡ false
     parts = sym (any_append (λ y. shares h y && marks y) kept (marked m e ∷ [])) ∙ none_ends
 
-    other_set : h.set ≡ some z → ⊥
+    other_set : h.set ≡ Some z → ⊥
     unfolding any shares marked of_group
     other_set q = not_both (any (λ y. shares h y && marks y) (marked m e ∷ []))
         (rw (end_marks)
@@ -238,13 +238,13 @@ module _ (e : Entry ℕ) (z : ℤ) (s : e.set ≡ some z) (m : Option ℕ) (is :
   unfolding is_stale marked
   end_fresh = last_false (of_group e.group (marked m e)) (not (any (λ y. shares (marked m e) y && marks y) l)) (not (same_set e.set e.set)) (ap not (ap (λ o. same_set o o) s ∙ same_eq_z z))
 
-  end_stale : lowest_set (keep (λ h. is_stale e l h) l) ≡ none → lowest_set (keep (λ h. is_stale e l h) (keep_end m e l)) ≡ none
+  end_stale : lowest_set (keep (λ h. is_stale e l h) l) ≡ None → lowest_set (keep (λ h. is_stale e l h) (keep_end m e l)) ≡ None
   unfolding keep_end
   end_stale d =
       ap lowest_set (keep_last (λ h. is_stale e l h) kept (marked m e) end_fresh ∙ turned (λ h. is_stale e l h) (λ h. not (replaced e h)) l)
       ∙ fewer (λ h. not (replaced e h)) (keep (λ h. is_stale e l h) l) d
 
-  pub kept_clean : lowest_stale e l ≡ none → lowest_stale e0 (keep_end m e l) ≡ none
+  pub kept_clean : lowest_stale e l ≡ None → lowest_stale e0 (keep_end m e l) ≡ None
   unfolding lowest_stale
   kept_clean d =
       fewer_pass (λ h. is_stale e l h) (λ h. is_stale e0 (keep_end m e l) h) before_stale (keep_end m e l) (end_stale d)
@@ -257,8 +257,8 @@ mark_there : (t : ℕ) (e : Entry ℕ) (l : List (Entry ℕ)) → is_some (mark_
 unfolding is_some
 mark_there t e l =
     (elim (find (λ m. shares e m && marks m) l) as (λ o. find (λ m. shares e m && marks m) l ≡ o → is_some (mark_or t o) ≡ true) [
-      | none ↦ λ d. refl
-      | some y ↦ λ d. marks_some y (and_right (shares e y) (marks y) (find_test (λ m. shares e m && marks m) l y d))
+      | None ↦ λ d. refl
+      | Some y ↦ λ d. marks_some y (and_right (shares e y) (marks y) (find_test (λ m. shares e m && marks m) l y d))
     ]) refl
 
 -- it is asked of the group and the set alone
@@ -272,20 +272,20 @@ stale_same a b l p q =
 module _ (e e0 : Entry ℕ) (g0 : e0.group ≡ e.group) (s0 : e0.set ≡ own_after e) where
   own_sample : (x : ℕ) → e.what ≡ sample x → e0.set ≡ e.set
   unfolding own_after is_sample
-  own_sample x t = s0 ∙ ap (λ b. cond b e.set none) (ap is_sample_w t)
+  own_sample x t = s0 ∙ ap (λ b. cond b e.set None) (ap is_sample_w t)
 
-  own_end : (f o : Option ℤ) → e.what ≡ set_end f o → e0.set ≡ none
+  own_end : (f o : Option ℤ) → e.what ≡ set_end f o → e0.set ≡ None
   unfolding own_after is_sample
-  own_end f o t = s0 ∙ ap (λ b. cond b e.set none) (ap is_sample_w t)
+  own_end f o t = s0 ∙ ap (λ b. cond b e.set None) (ap is_sample_w t)
 
-  settled_clean : (v : Work ℕ) (x : What ℕ) (z : Option ℤ) → e.what ≡ x → e.set ≡ z → lowest_stale e v.held ≡ none → lowest_stale e0 (settle e v x z).held ≡ none
+  settled_clean : (v : Work ℕ) (x : What ℕ) (z : Option ℤ) → e.what ≡ x → e.set ≡ z → lowest_stale e v.held ≡ None → lowest_stale e0 (settle e v x z).held ≡ None
   unfolding with_held with_out
-  settled_clean v (sample x) none t q d = stale_same e0 e v.held g0 (own_sample x t) ∙ d
-  settled_clean v (sample x) (some z) t q d = stale_same e0 e (v.held ++ (e ∷ [])) g0 (own_sample x t) ∙ joined_clean e z v.held q d
-  settled_clean v (set_end f o) none t q d = stale_same e0 e v.held g0 (own_end f o t ∙ sym q) ∙ d
-  settled_clean v (set_end f o) (some z) t q d = kept_clean e z q (mark_or e.time (find (λ m. shares e m && marks m) v.held)) (mark_there e.time e v.held) v.held e0 g0 (own_end f o t) d
+  settled_clean v (sample x) None t q d = stale_same e0 e v.held g0 (own_sample x t) ∙ d
+  settled_clean v (sample x) (Some z) t q d = stale_same e0 e (v.held ++ (e ∷ [])) g0 (own_sample x t) ∙ joined_clean e z v.held q d
+  settled_clean v (set_end f o) None t q d = stale_same e0 e v.held g0 (own_end f o t ∙ sym q) ∙ d
+  settled_clean v (set_end f o) (Some z) t q d = kept_clean e z q (mark_or e.time (find (λ m. shares e m && marks m) v.held)) (mark_there e.time e v.held) v.held e0 g0 (own_end f o t) d
 
-  pub clean_after : (w : Work ℕ) → lowest_stale e0 (commit_one e w).held ≡ none
+  pub clean_after : (w : Work ℕ) → lowest_stale e0 (commit_one e w).held ≡ None
   unfolding commit_one
   clean_after w = settled_clean (discard_stale (length w.held) e w) e.what e.set refl refl (stale_fuel e w (length w.held) (omega arith))
 
@@ -310,5 +310,5 @@ module _ (g : Guid) (k r : ℕ) (l : List ℕ) (o : List ℕ) (to : ℕ) (t : Sp
 
 -- ---- what is known of no set
 
-pub stale_none : (g : Guid) (own : Option ℤ) (n : ℕ) (l : List ℕ) → Stalest g own none (staged 1 (rows_in n l)) → StaleGone g own l n l
+pub stale_none : (g : Guid) (own : Option ℤ) (n : ℕ) (l : List ℕ) → Stalest g own None (staged 1 (rows_in n l)) → StaleGone g own l n l
 stale_none g own n l d = times_stop g own n l 0 l (times_none g own n l) d

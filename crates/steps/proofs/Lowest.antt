@@ -4,7 +4,7 @@ use Prim.Native.Nat.{ℕ, zero, suc, ◌+◌, ◌<◌, ◌≤◌}
 use mathlib.Core.Path.{◌≡◌, refl, sym, ap, ◌∙◌, fun_ext, subst}
 use mathlib.Core.Bool.{Bool, true, false, ◌&&◌, not, cond, and_assoc}
 use mathlib.Core.List.{List, [], ◌∷◌, map}
-use mathlib.Core.Option.{Option, some, none}
+use Rattle.std.specs.Prelude.{Option, Some, None}
 use native.Mathlib.Omega.{arith}
 use lib.IntN.{ℤ}
 use lib.Dec.{eqb}
@@ -27,8 +27,7 @@ use Rattle.guids.proofs.Guids.{same_refl, same_eq}
 use Rattle.rules.proofs.Minima.{eq_z_eq}
 use Rattle.rules.proofs.Fuel.{stale_more}
 use Rattle.store.specs.Store.{Row, rows_in, staged}
-use Rattle.store.specs.Records.{optional_as, entry_as}
-use Rattle.store.specs.declared.entry.Optional.TheVariants.{Present}
+use Rattle.store.specs.Records.{entry_as}
 use Rattle.store.specs.declared.entry.Entry as R
 use Rattle.sets.specs.Tied.{spot, Goes, GoesRows, Stalest, LowerStale, StaleGone, head_at}
 use Rattle.store.proofs.RowLaws.{same_eq_z, length_rows}
@@ -55,14 +54,14 @@ eq_z_sym a b =
       | false ↦ λ e. other_eq_z a b (λ d. not_both false (sym e ∙ ap (eq_z b) d ∙ same_eq_z b) refl)
     ]) refl
 
-same_is : (z : ℤ) (o : Option ℤ) → same_set o (some z) ≡ is_set z o
-same_is z none = refl
-same_is z (some y) = eq_z_sym y z
+same_is : (z : ℤ) (o : Option ℤ) → same_set o (Some z) ≡ is_set z o
+same_is z None = refl
+same_is z (Some y) = eq_z_sym y z
 
 -- the set number that an entry was read with, as it is passed on
-pub read_set : (r : R.Entry) (h : Entry ℕ) (z : ℤ) → entry_as r ≡ h → r.set ≡ Present z → to_z w64 (of_z w64 z) ≡ z → h.set ≡ some (to_z w64 (of_z w64 z))
-unfolding entry_as optional_as
-read_set r h z e p back = sym (ap (λ x. x.set) e) ∙ ap (λ o. optional_as o) p ∙ ap some (sym back)
+pub read_set : (r : R.Entry) (h : Entry ℕ) (z : ℤ) → entry_as r ≡ h → r.set ≡ Some z → to_z w64 (of_z w64 z) ≡ z → h.set ≡ Some (to_z w64 (of_z w64 z))
+unfolding entry_as
+read_set r h z e p back = sym (ap (λ x. x.set) e) ∙ ap (λ o. o) p ∙ ap Some (sym back)
 
 -- ---- the entries of the rows that pass
 
@@ -98,10 +97,10 @@ either true a = refl
 either false a = refl
 
 module _ (g : Guid) (own low : Option ℤ) (l : List (Entry ℕ)) (h : Entry ℕ) where
-  pub stale_absent : h.set ≡ none → LowerStale g own low low h l
+  pub stale_absent : h.set ≡ None → LowerStale g own low low h l
   stale_absent s e a b = sym (ap (λ o. cond (is_stale e l h) (lesser o low) low) s ∙ either (is_stale e l h) low)
 
-  module _ (z : ℤ) (s : h.set ≡ some z) (o : of_group g h ≡ true) where
+  module _ (z : ℤ) (s : h.set ≡ Some z) (o : of_group g h ≡ true) where
     stale_test : (e : Entry ℕ) → e.group ≡ g → e.set ≡ own → is_stale e l h ≡ not (any (λ m. in_set g z m && marks m) l) && not (is_set z own)
     unfolding is_stale shares in_set of_group
     stale_test e a b =
@@ -110,19 +109,19 @@ module _ (g : Guid) (own low : Option ℤ) (l : List (Entry ℕ)) (h : Entry ℕ
         ∙ ap (λ y. test g y e.set h.set) (sym (same_eq g h.group o))
         ∙ ap (λ u. test g g u h.set) b
         ∙ ap (λ v. test g g own v) s
-        ∙ ap (λ c. c && not (any (λ m. same_guid g m.group && is_set z m.set && marks m) l) && not (same_set own (some z))) (same_refl g)
+        ∙ ap (λ c. c && not (any (λ m. same_guid g m.group && is_set z m.set && marks m) l) && not (same_set own (Some z))) (same_refl g)
         ∙ ap (λ c. not (any (λ m. same_guid g m.group && is_set z m.set && marks m) l) && not c) (same_is z own)
 
-    stale_as : (r : Option ℤ) → r ≡ cond (not (any (λ m. in_set g z m && marks m) l) && not (is_set z own)) (lesser (some z) low) low → LowerStale g own low r h l
+    stale_as : (r : Option ℤ) → r ≡ cond (not (any (λ m. in_set g z m && marks m) l) && not (is_set z own)) (lesser (Some z) low) low → LowerStale g own low r h l
     stale_as r q e a b = q ∙ sym (ap (λ c. cond c (lesser h.set low) low) (stale_test e a b) ∙ ap (λ v. cond (not (any (λ m. in_set g z m && marks m) l) && not (is_set z own)) (lesser v low) low) s)
 
     pub stale_own : is_set z own ≡ true → LowerStale g own low low h l
-    stale_own q = stale_as low (sym (ap (λ c. cond c (lesser (some z) low) low) (and_never (not (any (λ m. in_set g z m && marks m) l)) (not (is_set z own)) (ap not q))))
+    stale_own q = stale_as low (sym (ap (λ c. cond c (lesser (Some z) low) low) (and_never (not (any (λ m. in_set g z m && marks m) l)) (not (is_set z own)) (ap not q))))
 
     pub stale_ended : any (λ m. in_set g z m && marks m) l ≡ true → LowerStale g own low low h l
     stale_ended q = stale_as low (rw q)
 
-    pub stale_open : (r : Option ℤ) → is_set z own ≡ false → any (λ m. in_set g z m && marks m) l ≡ false → r ≡ lesser (some z) low → LowerStale g own low r h l
+    pub stale_open : (r : Option ℤ) → is_set z own ≡ false → any (λ m. in_set g z m && marks m) l ≡ false → r ≡ lesser (Some z) low → LowerStale g own low r h l
     stale_open r q d f = stale_as r (rw (q, d) f)
 
 -- i is the first row of the set that marks it ended
@@ -147,7 +146,7 @@ abbrev pub StaleFrom : Guid → Option ℤ → (Row → Bool) → List (Entry �
 StaleFrom g own t l low rs = (e : Entry ℕ) → e.group ≡ g → e.set ≡ own → low ≡ lowest_set (passing (λ x. t x && is_stale e l x.entry) rs)
 
 module _ (g : Guid) (own : Option ℤ) (t : Row → Bool) (l : List (Entry ℕ)) where
-  pub stalest_none : StaleFrom g own t l none []
+  pub stalest_none : StaleFrom g own t l None []
   unfolding keep lowest_set
   stalest_none e a b = refl
 
@@ -182,11 +181,11 @@ module _ (e : Entry ℕ) where
   stale_suc zero w = refl
   stale_suc (suc j) w =
       (elim (lowest_stale e w.held) as (λ o. lowest_stale e w.held ≡ o → discard_or (λ v. discard_stale (suc j) e v) e.group w o ≡ discard_or (λ v. v) e.group (discard_or (λ v. discard_stale j e v) e.group w o) (lowest_stale e (discard_or (λ v. discard_stale j e v) e.group w o).held)) [
-        | none ↦ λ d. rw d
-        | some z ↦ λ d. stale_suc j (discard e.group z w)
+        | None ↦ λ d. rw d
+        | Some z ↦ λ d. stale_suc j (discard e.group z w)
       ]) refl
 
-  stale_done : (j : ℕ) (w : Work ℕ) → lowest_stale e (discard_stale j e w).held ≡ none → (k : ℕ) → discard_stale (j + k) e w ≡ discard_stale j e w
+  stale_done : (j : ℕ) (w : Work ℕ) → lowest_stale e (discard_stale j e w).held ≡ None → (k : ℕ) → discard_stale (j + k) e w ≡ discard_stale j e w
   stale_done j w d zero = let z : j + 0 ≡ j = omega arith in rw z
   stale_done j w d (suc k) =
       let ih : discard_stale (j + k) e w ≡ discard_stale j e w = stale_done j w d k in
@@ -203,14 +202,14 @@ module _ (g : Guid) (own : Option ℤ) (n : ℕ) (l : List ℕ) where
   times_none e a b i p k = goes_none i (spot l n p k)
 
   module _ (j : ℕ) (m : List ℕ) (s : StaleTimes j g own l n m) where
-    pub times_next : (z : ℤ) (o : List ℕ) → Stalest g own (some z) (staged 1 (rows_in n m)) → GoesRows (λ w. discard g z w) m n o → StaleTimes (suc j) g own l n o
+    pub times_next : (z : ℤ) (o : List ℕ) → Stalest g own (Some z) (staged 1 (rows_in n m)) → GoesRows (λ w. discard g z w) m n o → StaleTimes (suc j) g own l n o
     times_next z o d q e a b i p k =
         goes_as i (λ w. discard e.group z (discard_stale j e w)) (λ w. discard_stale (suc j) e w) (spot l n p k) (spot o n p k)
         (λ from w x. sym (stale_suc e j w ∙ ap (discard_or (λ v. v) e.group (discard_stale j e w)) (ap (lowest_stale e) (sym ((s e a b i p k).tied from w x).carries.held) ∙ sym (d e a b))))
         (goes_then i (λ w. discard_stale j e w) (λ w. discard e.group z w) (spot l n p k) (spot m n p k) (spot o n p k) (s e a b i p k) (subst (λ u. Goes i (λ w. discard u z w) (spot m n p k) (spot o n p k)) (sym a) (q i p k)))
 
     -- none is left
-    pub times_stop : Stalest g own none (staged 1 (rows_in n m)) → StaleGone g own l n m
+    pub times_stop : Stalest g own None (staged 1 (rows_in n m)) → StaleGone g own l n m
     times_stop d e a b i p k =
         goes_as i (λ w. discard_stale j e w) (λ w. discard_stale (length w.held) e w) (spot l n p k) (spot m n p k)
         (λ from w x.
@@ -229,10 +228,10 @@ module _ (g : Guid) (own : Option ℤ) (n : ℕ) (l : List ℕ) where
 
 -- of the rows rs, which stand from place i on: the lowest number of those that pass is low, and head is its first row; n if none passes
 pub record Headed (t : Row → Bool) (i n head low : ℕ) (rs : List Row) : Type 0 where
-  pub nowhere : lowest_number (passing t rs) ≡ none → head ≡ n
-  pub number : (m : ℕ) → lowest_number (passing t rs) ≡ some m → low ≡ m
-  pub first : (m : ℕ) → lowest_number (passing t rs) ≡ some m → head ≡ i + index_of (λ x. t x && eqb m x.entry.number) rs
-  pub within : (m : ℕ) → lowest_number (passing t rs) ≡ some m → head < n
+  pub nowhere : lowest_number (passing t rs) ≡ None → head ≡ n
+  pub number : (m : ℕ) → lowest_number (passing t rs) ≡ Some m → low ≡ m
+  pub first : (m : ℕ) → lowest_number (passing t rs) ≡ Some m → head ≡ i + index_of (λ x. t x && eqb m x.entry.number) rs
+  pub within : (m : ℕ) → lowest_number (passing t rs) ≡ Some m → head < n
 
 pub headed_none : (t : Row → Bool) (i n low : ℕ) → Headed t i n n low []
 unfolding keep lowest_number
@@ -240,7 +239,7 @@ headed_none t i n low = record { nowhere = λ e. refl; number = λ m e. none_som
 
 module _ (t : Row → Bool) (i j n head low : ℕ) (rs rest : List Row) (x : Row) (d : i + 1 ≡ j) (from : rs ≡ x ∷ rest) (s : Headed t j n head low rest) where
   -- the row does not count: the lowest stays
-  headed_same : lowest_number (passing t rs) ≡ lowest_number (passing t rest) → ((m : ℕ) → lowest_number (passing t rest) ≡ some m → t x && eqb m x.entry.number ≡ false) → Headed t i n head low rs
+  headed_same : lowest_number (passing t rs) ≡ lowest_number (passing t rest) → ((m : ℕ) → lowest_number (passing t rest) ≡ Some m → t x && eqb m x.entry.number ≡ false) → Headed t i n head low rs
   headed_same o f = record {
     nowhere = λ e. s.nowhere (sym o ∙ e);
     number = λ m e. s.number m (sym o ∙ e);
@@ -259,20 +258,20 @@ module _ (t : Row → Bool) (i j n head low : ℕ) (rs rest : List Row) (x : Row
   headed_above h b c =
       headed_same
       (least_hit h ∙ (elim (lowest_number (passing t rest)) as (λ o. lowest_number (passing t rest) ≡ o → least x.entry.number o ≡ o) [
-        | none ↦ λ e. absurd (b (s.nowhere e))
-        | some m ↦ λ e. ap some (omega (arith, s.number m e))
+        | None ↦ λ e. absurd (b (s.nowhere e))
+        | Some m ↦ λ e. ap Some (omega (arith, s.number m e))
       ]) refl)
       (λ m e. rw (h, ne_eqb m x.entry.number (λ q. omega (arith, s.number m e))))
 
-  headed_new : t x ≡ true → i < n → ((m : ℕ) → lowest_number (passing t rest) ≡ some m → x.entry.number ≤ m) → Headed t i n i x.entry.number rs
+  headed_new : t x ≡ true → i < n → ((m : ℕ) → lowest_number (passing t rest) ≡ Some m → x.entry.number ≤ m) → Headed t i n i x.entry.number rs
   headed_new h b c =
       let v : ℕ = x.entry.number in
-      let low : lowest_number (passing t rs) ≡ some v
-      = least_hit h ∙ (elim (lowest_number (passing t rest)) as (λ o. lowest_number (passing t rest) ≡ o → least v o ≡ some v) [
-        | none ↦ λ e. refl
-        | some m ↦ λ e. ap some (omega (arith, c m e))
+      let low : lowest_number (passing t rs) ≡ Some v
+      = least_hit h ∙ (elim (lowest_number (passing t rest)) as (λ o. lowest_number (passing t rest) ≡ o → least v o ≡ Some v) [
+        | None ↦ λ e. refl
+        | Some m ↦ λ e. ap Some (omega (arith, c m e))
       ]) refl in
-      let is : (m : ℕ) → lowest_number (passing t rs) ≡ some m → v ≡ m = λ m e. let f : some v ≡ some m = sym low ∙ e in cc in
+      let is : (m : ℕ) → lowest_number (passing t rs) ≡ Some m → v ≡ m = λ m e. let f : Some v ≡ Some m = sym low ∙ e in cc in
       record {
         nowhere = λ e. none_some v (sym e ∙ low);
         number = is;
@@ -292,7 +291,7 @@ zero_add n = omega arith
 pub headed_all : (t : Row → Bool) (g : Guid) → ((x : Row) → t x ≡ eqb x.stage 0 && of_group g x.entry) → (n head low : ℕ) (rs : List Row) → length rs ≡ n → Headed t 0 n head low rs → head ≡ head_at g (lowest_number (keep (λ e. of_group g e) (staged 0 rs))) rs
 headed_all t g h n head low rs long s =
     (elim (lowest_number (passing t rs)) as (λ o. lowest_number (passing t rs) ≡ o → head ≡ head_at g o rs) [
-      | none ↦ λ e. s.nowhere e ∙ sym long
-      | some m ↦ λ e. s.first m e ∙ zero_add _ ∙ ap (λ u. index_of u rs) (fun_ext (λ x. rw (h x) (and_assoc (eqb x.stage 0) (of_group g x.entry) (eqb m x.entry.number))))
+      | None ↦ λ e. s.nowhere e ∙ sym long
+      | Some m ↦ λ e. s.first m e ∙ zero_add _ ∙ ap (λ u. index_of u rs) (fun_ext (λ x. rw (h x) (and_assoc (eqb x.stage 0) (of_group g x.entry) (eqb m x.entry.number))))
     ]) refl
     ∙ ap (λ l. head_at g (lowest_number l) rs) (passing_staged 0 (λ e. of_group g e) t h rs)

@@ -4,7 +4,7 @@ use mathlib.Core.Path.{◌≡◌, refl, sym, ap, subst, ◌∙◌}
 use mathlib.Core.Logic.{◌≢◌}
 use mathlib.Core.Bool.{Bool, true, false, ◌&&◌}
 use mathlib.Core.List.{List, ◌++◌, map, map-append, append_assoc}
-use mathlib.Core.Option.{some, none}
+use Rattle.std.specs.Prelude.{Some, None}
 use native.Mathlib.Omega.{arith}
 use lib.IntN.{ℤ}
 use lib.Dec.{ltb}
@@ -188,7 +188,7 @@ finished i b g z ps s t e a = goes_as i (λ w. finish_if b g z w) (λ w. finish_
     (λ from w x. ap (λ c. finish_if c g z w) (e ∙ ap (whole g z ps) x.carries.held)) a
 
 -- a repetition that found it: by whether it waits
-module _ (i : ℕ) (v : List ℕ) (now : ℕ) (l : List ℕ) (n : ℕ) (o : List ℕ) (k : ℕ) (g : Guid) (z : ℤ) (is : g ≡ (group_at l i).guid) (low : lowest_ended g (staged 1 (rows_in n l)) ≡ some z) (b : Bool)
+module _ (i : ℕ) (v : List ℕ) (now : ℕ) (l : List ℕ) (n : ℕ) (o : List ℕ) (k : ℕ) (g : Guid) (z : ℤ) (is : g ≡ (group_at l i).guid) (low : lowest_ended g (staged 1 (rows_in n l)) ≡ Some z) (b : Bool)
     (e : b ≡ end_missing g z (pairs_for v g) (staged 1 (rows_in n l)) && ltb (waited now (find (λ h. is_member g z h) (staged 1 (rows_in n l)))) (get_or l 3 0)) where
   abbrev turn : Turn
   turn = turn_at i v now l
@@ -210,7 +210,7 @@ module _ (i : ℕ) (v : List ℕ) (now : ℕ) (l : List ℕ) (n : ℕ) (o : List
   pub set_stays : b ≡ true → Rounds i turn false here here
   unfolding is_some
   set_stays y =
-      let stops : (from : Spot) (w : Work ℕ) → Tied i from here w → round turn w ≡ none = λ from w x. turn_round from w x ∙ ap (λ c. finish_or c turn z w) y in
+      let stops : (from : Spot) (w : Work ℕ) → Tied i from here w → round turn w ≡ None = λ from w x. turn_round from w x ∙ ap (λ c. finish_or c turn z w) y in
       record {
         goes = goes_as i (λ w. w) (λ w. round_to turn w) here here (λ from w x. ap (λ r. or_stop (λ u. u) w r) (sym (stops from w x))) (goes_none i here);
         went_on = λ from w x. ap (λ r. is_some r) (stops from w x);
@@ -220,7 +220,7 @@ module _ (i : ℕ) (v : List ℕ) (now : ℕ) (l : List ℕ) (n : ℕ) (o : List
   unfolding is_some finish turn_at turn_of view_of pairs_for
   set_goes t y a =
       let goes : Goes i (λ w. finish turn z w) here t = subst (λ x. Goes i (λ w. finish_if (whole x z (pairs_for v x) w.held) x z w) here t) is a in
-      let went : (from : Spot) (w : Work ℕ) → Tied i from here w → round turn w ≡ some (finish turn z w) = λ from w x. turn_round from w x ∙ ap (λ c. finish_or c turn z w) y in
+      let went : (from : Spot) (w : Work ℕ) → Tied i from here w → round turn w ≡ Some (finish turn z w) = λ from w x. turn_round from w x ∙ ap (λ c. finish_or c turn z w) y in
       record {
         goes = goes_as i (λ w. finish turn z w) (λ w. round_to turn w) here t (λ from w x. ap (λ r. or_stop (λ u. u) w r) (sym (went from w x))) goes;
         went_on = λ from w x. ap (λ r. is_some r) (went from w x);

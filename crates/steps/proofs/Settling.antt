@@ -3,7 +3,7 @@ use Prim.Native.Nat.{ℕ, zero, suc, ◌+◌, ◌*◌, ◌^◌, ◌<◌, ◌≤�
 use mathlib.Core.Path.{◌≡◌, refl, sym, ap, ap₂, subst, ◌∙◌, fun_ext}
 use mathlib.Core.Bool.{Bool, true, false, ◌&&◌, not, cond}
 use mathlib.Core.List.{List, [], ◌∷◌, ◌++◌, map, map-append}
-use mathlib.Core.Option.{Option, some, none}
+use Rattle.std.specs.Prelude.{Option, Some, None}
 use native.Mathlib.Omega.{arith}
 use native.Mathlib.Numerals.{add-one}
 use lib.IntN.{ℤ}
@@ -43,20 +43,20 @@ blank = row_of []
 
 -- the first held entry that passes, at the first held row whose entry does
 module _ (p : Entry ℕ → Bool) (n i : ℕ) (l : List ℕ) (b : n ≤ 512) (e : i ≡ index_of (λ x. eqb x.stage 1 && p x.entry) (rows_in n l)) where
-  pub held_there : i < n → find p (staged 1 (rows_in n l)) ≡ some (row_at i l).entry
+  pub held_there : i < n → find p (staged 1 (rows_in n l)) ≡ Some (row_at i l).entry
   held_there h =
       staged_at 1 p (rows_in n l) blank (rw (← e) (omega (arith, length_rows n l b)))
-      ∙ rw (← e) (ap (λ r. some r.entry) (row_in n i l blank h b))
+      ∙ rw (← e) (ap (λ r. Some r.entry) (row_in n i l blank h b))
 
-  pub held_nowhere : n ≤ i → find p (staged 1 (rows_in n l)) ≡ none
+  pub held_nowhere : n ≤ i → find p (staged 1 (rows_in n l)) ≡ None
   held_nowhere h = staged_past 1 p (rows_in n l) (omega (arith, length_rows n l b, index_le (λ x. eqb x.stage 1 && p x.entry) (rows_in n l)))
 
 -- of an end's set, asked for by the set's number
-pub shares_set : (e : Entry ℕ) (z : ℤ) → e.set ≡ some z → (m : Entry ℕ) → in_set e.group z m ≡ shares e m
+pub shares_set : (e : Entry ℕ) (z : ℤ) → e.set ≡ Some z → (m : Entry ℕ) → in_set e.group z m ≡ shares e m
 unfolding shares in_set
 shares_set e z c m = ap (λ o. of_group e.group m && same_set o m.set) (sym c)
 
-pub mark_shared : (g : Guid) (e : Entry ℕ) (z : ℤ) (l : List (Entry ℕ)) → g ≡ e.group → e.set ≡ some z
+pub mark_shared : (g : Guid) (e : Entry ℕ) (z : ℤ) (l : List (Entry ℕ)) → g ≡ e.group → e.set ≡ Some z
     → mark_or e.time (find (λ m. in_set g z m && marks m) l) ≡ mark_or e.time (find (λ m. shares e m && marks m) l)
 mark_shared g e z l a c =
     ap (λ x. mark_or e.time (find (λ m. in_set x z m && marks m) l)) a
@@ -109,7 +109,7 @@ module _ (n : ℕ) (row a m : List ℕ) (x : Entry ℕ) (push : Behind n row a m
 -- ---- an end is kept
 
 -- its pair's kept end in the set, as the query asks for it
-pub asks_replaced : (q : Query) (g w : Guid) (z : ℤ) (e : Entry ℕ) → g ≡ e.group → w ≡ e.writer → e.set ≡ some z
+pub asks_replaced : (q : Query) (g w : Guid) (z : ℤ) (e : Entry ℕ) → g ≡ e.group → w ≡ e.writer → e.set ≡ Some z
     → Asks q 1 (λ h. pair_in g z w e.reader false h) → Asks q 1 (λ h. replaced e h)
 unfolding pair_in is_end_of replaced
 asks_replaced q g w z e a b c h x =
@@ -158,10 +158,10 @@ module _ (e : Entry ℕ) (i : ℕ) (s t : Spot) where
 
 module _ (e : Entry ℕ) (l : List ℕ) (n : ℕ) (o : List ℕ) (k : ℕ) where
   -- a plain sample is handed out
-  pub settle_out : (x v : ℕ) → e.what ≡ sample x → e.set ≡ none → v ≡ e.reader * 4294967296 + x → k < length o
+  pub settle_out : (x v : ℕ) → e.what ≡ sample x → e.set ≡ None → v ≡ e.reader * 4294967296 + x → k < length o
       → (i : ℕ) → GoesBy 1 (count (λ x. is_sample x) (e ∷ [])) i (λ w. settle e w e.what e.set) (spot l n o k) (spot l n (set o k v) (k + 1))
   unfolding with_out needs wants place_of
-  settle_out x v a b d h i = settle_as e i (spot l n o k) (spot l n (set o k v) (k + 1)) (sample x) none a b (record {
+  settle_out x v a b d h i = settle_as e i (spot l n o k) (spot l n (set o k v) (k + 1)) (sample x) None a b (record {
     tied = λ from w t. record {
       carries = record {
         pending = t.carries.pending;
@@ -183,24 +183,24 @@ module _ (e : Entry ℕ) (l : List ℕ) (n : ℕ) (o : List ℕ) (k : ℕ) where
   })
 
   -- a member joins its set
-  pub settle_member : (x : ℕ) (z : ℤ) (row m : List ℕ) → e.what ≡ sample x → e.set ≡ some z → Behind n row l m → row_of row ≡ record { stage = 1; entry = e }
+  pub settle_member : (x : ℕ) (z : ℤ) (row m : List ℕ) → e.what ≡ sample x → e.set ≡ Some z → Behind n row l m → row_of row ≡ record { stage = 1; entry = e }
       → (i : ℕ) → GoesBy 1 (count (λ x. is_sample x) (e ∷ [])) i (λ w. settle e w e.what e.set) (spot l n o k) (spot m (n + 1) o k)
   unfolding is_sample
   settle_member x z row m a b push is i =
-      settle_as e i (spot l n o k) (spot m (n + 1) o k) (sample x) (some z) a b
+      settle_as e i (spot l n o k) (spot m (n + 1) o k) (sample x) (Some z) a b
       (held_goes 1 1 i (λ h. h ++ (e ∷ [])) l m n (n + 1) o k push.head (pushed_pending n row l m e push is) (pushed_put n row l m e push is) (pushed_held n row l m e push is) (omega arith)
       (omega (arith, count_last (λ x. is_sample x) (staged 1 (rows_in n l)) e, ap {B = ℕ} (λ y. cond (is_sample_w y) 1 0) a)))
 
   -- an end without a set is dropped
-  pub settle_dropped : (f g : Option ℤ) → e.what ≡ set_end f g → e.set ≡ none
+  pub settle_dropped : (f g : Option ℤ) → e.what ≡ set_end f g → e.set ≡ None
       → (i : ℕ) → GoesBy 1 (count (λ x. is_sample x) (e ∷ [])) i (λ w. settle e w e.what e.set) (spot l n o k) (spot l n o k)
-  settle_dropped f g a b i = settle_as e i (spot l n o k) (spot l n o k) (set_end f g) none a b (record { tied = λ from w t. t; rows = omega arith; room = omega arith; same = refl })
+  settle_dropped f g a b i = settle_as e i (spot l n o k) (spot l n o k) (set_end f g) None a b (record { tied = λ from w t. t; rows = omega arith; room = omega arith; same = refl })
 
   -- an end is kept
-  pub settle_kept : (f g : Option ℤ) (z : ℤ) (m : List ℕ) → e.what ≡ set_end f g → e.set ≡ some z
+  pub settle_kept : (f g : Option ℤ) (z : ℤ) (m : List ℕ) → e.what ≡ set_end f g → e.set ≡ Some z
       → ((i : ℕ) (o : List ℕ) (k : ℕ) → GoesBy 1 0 i (λ w. with_held (keep_end (mark_or e.time (find (λ h. shares e h && marks h) w.held)) e w.held) w) (spot l n o k) (spot m (n + 1) o k))
       → (i : ℕ) → GoesBy 1 (count (λ x. is_sample x) (e ∷ [])) i (λ w. settle e w e.what e.set) (spot l n o k) (spot m (n + 1) o k)
-  settle_kept f g z m a b h i = settle_as e i (spot l n o k) (spot m (n + 1) o k) (set_end f g) (some z) a b (h i o k)
+  settle_kept f g z m a b h i = settle_as e i (spot l n o k) (spot m (n + 1) o k) (set_end f g) (Some z) a b (h i o k)
 
 -- ---- a pending row leaves
 
@@ -298,16 +298,16 @@ stale_frame : (q : List (Entry ℕ)) (k : ℕ) (e : Entry ℕ) (w : Work ℕ) �
 unfolding discard_stale with_pending discard
 stale_frame q zero e w = refl
 stale_frame q (suc k) e w = elim (lowest_stale e w.held) as (λ o. with_pending q (discard_or (λ v. discard_stale k e v) e.group w o) ≡ discard_or (λ v. discard_stale k e v) e.group (with_pending q w) o) [
-  | none ↦ refl
-  | some z ↦ stale_frame q k e (discard e.group z w)
+  | None ↦ refl
+  | Some z ↦ stale_frame q k e (discard e.group z w)
 ]
 
 settle_frame : (q : List (Entry ℕ)) (e : Entry ℕ) (w : Work ℕ) (x : What ℕ) (s : Option ℤ) → with_pending q (settle e w x s) ≡ settle e (with_pending q w) x s
 unfolding with_pending with_held with_out
-settle_frame q e w (sample x) none = refl
-settle_frame q e w (sample x) (some z) = refl
-settle_frame q e w (set_end f o) none = refl
-settle_frame q e w (set_end f o) (some z) = refl
+settle_frame q e w (sample x) None = refl
+settle_frame q e w (sample x) (Some z) = refl
+settle_frame q e w (set_end f o) None = refl
+settle_frame q e w (set_end f o) (Some z) = refl
 
 pub commit_frame : (q : List (Entry ℕ)) (e : Entry ℕ) (w : Work ℕ) → with_pending q (commit_one e w) ≡ commit_one e (with_pending q w)
 unfolding commit_one with_pending
@@ -406,7 +406,7 @@ module _ (g : Guid) (n : ℕ) where
   pub heads_done : (k : ℕ) (s t : Spot) → Heads k s t → keep (λ e. is_head_of e) (at 0 t) ≡ [] → (i : ℕ) → Goes i (λ w. commit_heads g n w) s t
   heads_done k s t h e = heads_end k s t h (λ i from v x y. ap (keep (λ e. is_head_of e)) (sym x.carries.pending) ∙ e)
 
-  module _ (l : List ℕ) (r : ℕ) (b : r ≤ 512) (j : ℕ) (f : j ≡ head_at g (some n) (rows_in r l)) where
+  module _ (l : List ℕ) (r : ℕ) (b : r ≤ 512) (j : ℕ) (f : j ≡ head_at g (Some n) (rows_in r l)) where
     module _ (w : j < r) where
       first_fits : eqb (row_at j l).stage 0 && is_head_of (row_at j l).entry ≡ true
       first_fits = rw (← row_in r j l blank w b, f) (index_passes (λ x. eqb x.stage 0 && is_head_of x.entry) (rows_in r l) blank (rw (← f) (omega (arith, length_rows r l b))))

@@ -1,18 +1,16 @@
 // What a release does to a group's sets: a set is handed out or discarded, as finish_set of the source does.
 ghost use Rattle.std.specs.Prelude.{◌≡◌, ℕ, ◌+◌, ◌<◌, get_or, set};
-ghost use Rattle.std.proofs.Math.Option.{some};
+ghost use Rattle.std.specs.Prelude.{Some};
 ghost use Rattle.rules.specs.State.{plus};
 ghost use Rattle.rules.specs.Sets.{lesser};
 ghost use Rattle.rules.specs.Release.{discard, hand_out};
 ghost use Rattle.store.specs.Store.{row_at};
 ghost use Rattle.guids.specs.Keys.{key_as};
-ghost use Rattle.store.specs.Records.{optional_as};
 ghost use Rattle.sets.specs.Tied.{spot, Fit, Goes, GoesRows, Counted};
 
 use guids::key::Key;
 use sets::leaving::{vacate_rows, write_rows};
 use store::coding::read_entry;
-use store::entry::Optional;
 use store::query::Query;
 use store::rows::count_rows;
 use store::words::{Store, put_word, whole, word};
@@ -57,29 +55,29 @@ pub fn hand_out_set(
 }
 
 // The lower of a number and an optional one.
-pub fn lower(z: i64, low: Optional) -> Optional
-    ensures { optional_as result ≡ lesser (some z) (optional_as low) }
+pub fn lower(z: i64, low: Option<i64>) -> Option<i64>
+    ensures { result ≡ lesser (Some z) low }
 {
     match low {
-        Optional::Absent => Optional::Present(z),
-        Optional::Present(y) => {
+        None => Some(z),
+        Some(y) => {
             let lower = y < z;
             if lower {
                 return low;
             }
-            Optional::Present(z)
+            Some(z)
         }
     }
 }
 
 // The lower of row i's set number, if it has one, and another.
-pub fn lower_set(store: &Store, i: usize, low: Optional) -> Optional
-    ensures { optional_as result ≡ lesser (row_at i store.now).entry.set (optional_as low) }
+pub fn lower_set(store: &Store, i: usize, low: Option<i64>) -> Option<i64>
+    ensures { result ≡ lesser (row_at i store.now).entry.set low }
 {
     let e = read_entry(store, i);
     let set = e.set;
     match set {
-        Optional::Absent => low,
-        Optional::Present(z) => lower(z, low),
+        None => low,
+        Some(z) => lower(z, low),
     }
 }

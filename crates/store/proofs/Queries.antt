@@ -3,7 +3,7 @@ use Prim.Native.Nat.{ℕ, suc, ◌<◌, ◌≤◌}
 use mathlib.Core.Path.{◌≡◌, refl, sym, ap, ◌∙◌, fun_ext}
 use mathlib.Core.Bool.{Bool, true, false, ◌&&◌, ◌||◌, not, cond, beq}
 use mathlib.Core.List.{List, [], ◌∷◌, ◌++◌, map, map-append, append-nil}
-use mathlib.Core.Option.{some, none}
+use Rattle.std.specs.Prelude.{Some, None}
 use native.Mathlib.Omega.{arith}
 use lib.Dec.{eqb}
 use lib.ListN.{length, get_or}
@@ -26,15 +26,15 @@ module _ {A : Type 0} (p : A → Bool) where
   index_le (a ∷ l) = let h = index_le l in elim (p a) as (λ b. cond b 0 (suc (index_of p l)) ≤ suc (length l)) [ true ↦ omega arith | false ↦ omega arith ]
 
   -- its place is within the list: so it is found; else none is
-  pub find_within : (l : List A) (z : A) → index_of p l < length l → find p l ≡ some (get_or l (index_of p l) z)
+  pub find_within : (l : List A) (z : A) → index_of p l < length l → find p l ≡ Some (get_or l (index_of p l) z)
   unfolding find index_of
   find_within [] z h = absurd (omega arith)
-  find_within (a ∷ l) z h = (elim (p a) as (λ b. cond b 0 (suc (index_of p l)) < suc (length l) → cond b (some a) (find p l) ≡ some (get_or (a ∷ l) (cond b 0 (suc (index_of p l))) z)) [ true ↦ λ k. refl | false ↦ λ k. find_within l z (omega arith) ]) h
+  find_within (a ∷ l) z h = (elim (p a) as (λ b. cond b 0 (suc (index_of p l)) < suc (length l) → cond b (Some a) (find p l) ≡ Some (get_or (a ∷ l) (cond b 0 (suc (index_of p l))) z)) [ true ↦ λ k. refl | false ↦ λ k. find_within l z (omega arith) ]) h
 
-  pub find_past : (l : List A) → index_of p l ≡ length l → find p l ≡ none
+  pub find_past : (l : List A) → index_of p l ≡ length l → find p l ≡ None
   unfolding find index_of
   find_past [] h = refl
-  find_past (a ∷ l) h = (elim (p a) as (λ b. cond b 0 (suc (index_of p l)) ≡ suc (length l) → cond b (some a) (find p l) ≡ none) [ true ↦ λ k. absurd (omega arith) | false ↦ λ k. find_past l (omega arith) ]) h
+  find_past (a ∷ l) h = (elim (p a) as (λ b. cond b 0 (suc (index_of p l)) ≡ suc (length l) → cond b (Some a) (find p l) ≡ None) [ true ↦ λ k. absurd (omega arith) | false ↦ λ k. find_past l (omega arith) ]) h
 
 -- ---- a test of what a test keeps
 
@@ -56,7 +56,7 @@ module _ {A : Type 0} (p q : A → Bool) where
   pub find_keep : (l : List A) → find p (keep q l) ≡ find (λ x. q x && p x) l
   unfolding find keep
   find_keep [] = refl
-  find_keep (a ∷ l) = elim (q a) as (λ b. find p (cond b (a ∷ keep q l) (keep q l)) ≡ cond (b && p a) (some a) (find (λ x. q x && p x) l)) [ true ↦ ap (λ t. cond (p a) (some a) t) (find_keep l) | false ↦ find_keep l ]
+  find_keep (a ∷ l) = elim (q a) as (λ b. find p (cond b (a ∷ keep q l) (keep q l)) ≡ cond (b && p a) (Some a) (find (λ x. q x && p x) l)) [ true ↦ ap (λ t. cond (p a) (Some a) t) (find_keep l) | false ↦ find_keep l ]
 
 module _ {A : Type 0} (p : A → Bool) where
   -- every one passes: none fails
@@ -91,10 +91,10 @@ module _ (k : ℕ) (p : Entry ℕ → Bool) (rs : List Row) where
 
   -- the entry of the first row that passes is the first entry that passes
   pub staged_at : (z : Row) → index_of (λ x. eqb x.stage k && p x.entry) rs < length rs
-      → find p (staged k rs) ≡ some (get_or rs (index_of (λ x. eqb x.stage k && p x.entry) rs) z).entry
+      → find p (staged k rs) ≡ Some (get_or rs (index_of (λ x. eqb x.stage k && p x.entry) rs) z).entry
   staged_at z h = sym staged_find ∙ ap (map_o (λ r. r.entry)) (find_within (λ x. eqb x.stage k && p x.entry) rs z h)
 
-  pub staged_past : index_of (λ x. eqb x.stage k && p x.entry) rs ≡ length rs → find p (staged k rs) ≡ none
+  pub staged_past : index_of (λ x. eqb x.stage k && p x.entry) rs ≡ length rs → find p (staged k rs) ≡ None
   staged_past h = sym staged_find ∙ ap (map_o (λ r. r.entry)) (find_past (λ x. eqb x.stage k && p x.entry) rs h)
 
   -- rows of the stage are taken out
@@ -173,10 +173,10 @@ module _ (q : Query) where
     asked_other j h = ap (λ t. staged j (keep (λ x. not (t x)) rs)) test ∙ staged_other q.stage (λ e. asks q e) rs j h
 
     -- i is the place of the first row that fits
-    pub asked_at : (i : ℕ) (z : Row) → i ≡ index_of (λ x. fits q x) rs → i < length rs → find (λ e. asks q e) (staged q.stage rs) ≡ some (get_or rs i z).entry
+    pub asked_at : (i : ℕ) (z : Row) → i ≡ index_of (λ x. fits q x) rs → i < length rs → find (λ e. asks q e) (staged q.stage rs) ≡ Some (get_or rs i z).entry
     asked_at i z e h =
         let f = e ∙ ap (λ t. index_of t rs) test in
         rw f (staged_at q.stage (λ e. asks q e) rs z (rw f at h))
 
-    pub asked_past : (i : ℕ) → i ≡ index_of (λ x. fits q x) rs → i ≡ length rs → find (λ e. asks q e) (staged q.stage rs) ≡ none
+    pub asked_past : (i : ℕ) → i ≡ index_of (λ x. fits q x) rs → i ≡ length rs → find (λ e. asks q e) (staged q.stage rs) ≡ None
     asked_past i e h = staged_past q.stage (λ e. asks q e) rs (sym (ap (λ t. index_of t rs) test) ∙ sym e ∙ h)

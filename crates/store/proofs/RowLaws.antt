@@ -3,7 +3,7 @@ use Prim.Native.Nat.{ℕ, ◌+◌, ◌*◌, ◌<◌, ◌≤◌}
 use mathlib.Core.Path.{◌≡◌, refl, sym, ap, ◌∙◌}
 use mathlib.Core.Bool.{Bool, true, false, ◌&&◌, not, beq}
 use mathlib.Core.List.{List, [], ◌∷◌, ◌++◌, append-nil}
-use mathlib.Core.Option.{some, none}
+use Rattle.std.specs.Prelude.{Some, None}
 use native.Mathlib.Omega.{arith}
 use native.Mathlib.Numerals.{add-one}
 use lib.IntN.{ℤ, pos, negsuc}
@@ -103,13 +103,13 @@ rows_more i l h =
 
 -- row i is the first that fits: so its entry is the stage's first that the query asks for
 pub row_found : (q : Query) (n i : ℕ) (l : List ℕ) → n ≤ 512 → i ≡ index_of (λ x. fits q x) (rows_in n l) → i < n
-    → find (λ e. asks q e) (staged q.stage (rows_in n l)) ≡ some (row_at i l).entry
+    → find (λ e. asks q e) (staged q.stage (rows_in n l)) ≡ Some (row_at i l).entry
 row_found q n i l h e b =
     let z : Row = row_of [] in
-    asked_at q (rows_in n l) i z e (omega (arith, length_rows n l h)) ∙ ap (λ r. some r.entry) (row_in n i l z b h)
+    asked_at q (rows_in n l) i z e (omega (arith, length_rows n l h)) ∙ ap (λ r. Some r.entry) (row_in n i l z b h)
 
 pub row_missing : (q : Query) (n : ℕ) (l : List ℕ) → n ≤ 512 → n ≡ index_of (λ x. fits q x) (rows_in n l)
-    → find (λ e. asks q e) (staged q.stage (rows_in n l)) ≡ none
+    → find (λ e. asks q e) (staged q.stage (rows_in n l)) ≡ None
 row_missing q n l h e = asked_past q (rows_in n l) n e (sym (length_rows n l h))
 
 -- ---- words that are pasted behind the first k

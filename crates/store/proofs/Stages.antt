@@ -3,7 +3,7 @@ use Prim.Native.Nat.{ℕ, zero, suc, ◌+◌, ◌%◌, ◌≤◌, ◌<◌, min}
 use mathlib.Core.Path.{◌≡◌, refl, sym, ap, ap₂, ◌∙◌, fun_ext}
 use mathlib.Core.Bool.{Bool, true, ◌&&◌, not, cond}
 use mathlib.Core.List.{List, [], ◌∷◌}
-use mathlib.Core.Option.{Option, some, none}
+use Rattle.std.specs.Prelude.{Option, Some, None}
 use native.Mathlib.Omega.{arith}
 use lib.Dec.{eqb, ltb}
 use lib.ListN.{length, get_or, drop, length-map}
@@ -47,8 +47,8 @@ module _ (q : Query) (k : ℕ) (p : E.Entry ℕ → Bool) (a : Asks q k p) where
   asks_mark rs = ap (λ f. row_mark (find f rs)) asks_test ∙ mark_entry (find (λ x. eqb x.stage k && p x.entry) rs) ∙ ap (λ o. mark_of o) (staged_find k p rs)
     where
       mark_entry : (o : Option Row) → row_mark o ≡ mark_of (map_o (λ r. r.entry) o)
-      mark_entry none = refl
-      mark_entry (some x) = refl
+      mark_entry None = refl
+      mark_entry (Some x) = refl
 
   -- the rows that are left when they are taken out
   module _ (n r : ℕ) (l m : List ℕ) (e : Removed q n r l m) where

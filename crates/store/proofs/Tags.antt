@@ -2,7 +2,7 @@
 use Prim.Native.Nat.{ℕ, ◌+◌, ◌*◌, ◌/◌, ◌%◌, ◌^◌, ◌<◌}
 use mathlib.Core.Path.{◌≡◌}
 use mathlib.Core.Bool.{cond}
-use mathlib.Core.Option.{some, none}
+use Rattle.std.specs.Prelude.{Some, None}
 use mathlib.Core.List.{List, [], ◌∷◌}
 use native.Mathlib.Omega.{arith}
 use lib.Dec.{eqb, lit<}
@@ -24,7 +24,7 @@ made g e s f o m gh gl wh wl r n sw fw ow t mw = record {
     set = optional s sw;
     what = cond (eqb e 1) (set_end (optional f fw) (optional o ow)) (sample (fw % 2 ^ 32));
     time = t;
-    ended = cond (eqb m 1) (some mw) none;
+    ended = cond (eqb m 1) (Some mw) None;
   };
 }
 

@@ -3,7 +3,7 @@ use Prim.Native.Nat.{ℕ, ◌+◌, ◌*◌, ◌-◌, ◌%◌, ◌^◌, ◌<◌, 
 use mathlib.Core.Path.{◌≡◌, refl, sym, ap, ◌∙◌}
 use mathlib.Core.Bool.{false, cond}
 use mathlib.Core.List.{List, [], ◌∷◌, ◌++◌}
-use mathlib.Core.Option.{Option, some}
+use Rattle.std.specs.Prelude.{Option, Some}
 use native.Mathlib.Omega.{arith}
 use native.Mathlib.Nat.{add_assoc}
 use lib.ListN.{length, get_or, set, take, drop, length-set, length-append, length-take, get_or-eq_default}
@@ -123,7 +123,7 @@ row_saw r k n d e h f =
     let v : ℕ = max (get_or r (4 + k) 0) n in
     let o : (j : ℕ) → (j ≡ 4 + k → ⊥) → get_or (set r (4 + k) v) j 0 ≡ get_or r j 0 = λ j. get_or-set_other r (4 + k) j v 0 in
     let m : (d + 1 - 1) % 2 ^ 32 ≡ d = omega arith in
-    let t : digest_of (d + 1) ≡ some d = rw (ne_eqb (d + 1) 0 (λ x. omega arith), m) in
+    let t : digest_of (d + 1) ≡ Some d = rw (ne_eqb (d + 1) 0 (λ x. omega arith), m) in
     row_digest (set r (4 + k) v) (d + 1) (length-set r (4 + k) v ∙ e)
     ∙ rw (
       t,
@@ -154,7 +154,7 @@ pub row_saw_past : (r : List ℕ) (k n d : ℕ) → length r ≡ 25 → 8 ≤ k 
 unfolding writer_of saw raise
 row_saw_past r k n d e h f =
     let m : (d + 1 - 1) % 2 ^ 32 ≡ d = omega arith in
-    let t : digest_of (d + 1) ≡ some d = rw (ne_eqb (d + 1) 0 (λ x. omega arith), m) in
+    let t : digest_of (d + 1) ≡ Some d = rw (ne_eqb (d + 1) 0 (λ x. omega arith), m) in
     row_digest r (d + 1) e ∙ rw (t, set_past (take 8 (drop 4 r)) k (max (get_or (take 8 (drop 4 r)) k 0) n) (omega (arith, length_part 8 4 r (omega arith))))
 
 pub row_gapped_past : (r : List ℕ) (k n : ℕ) → length r ≡ 25 → 8 ≤ k → writer_of r ≡ gapped k n (writer_of r)

@@ -1,6 +1,6 @@
 -- What the records of the code stand for.
 use Rattle.std.specs.Prelude.{ℕ, ◌+◌, ◌≤◌, ◌%◌, ◌^◌, ◌≡◌, List, [], ◌∷◌, ◌++◌, length, take, set, get_or, Bool, true, false, ◌&&◌, ◌||◌, not, cond, ℤ, pos, eqb}
-use Rattle.std.proofs.Math.Option.{Option, some, none}
+use Rattle.std.specs.Prelude.{Option, Some, None}
 use Rattle.std.specs.Bool.{beq}
 use Rattle.guids.specs.Guid.{Guid, same_guid}
 use Rattle.rules.specs.Entry as E
@@ -13,28 +13,16 @@ use Rattle.rules.specs.Marks.{hear_group, hear_writer}
 use Rattle.rules.specs.Offer.{with_marks, ninth, pair33}
 use Rattle.rules.specs.declared.number.Marks.{Marks}
 use Rattle.guids.specs.declared.key.Key.{Key}
-use Rattle.store.specs.declared.entry.Optional.{Optional}
-use Rattle.store.specs.declared.entry.Optional.TheVariants.{Absent, Present}
 use Rattle.store.specs.declared.entry.What.{What}
 use Rattle.store.specs.declared.entry.What.TheVariants.{Sample, End}
-use Rattle.store.specs.declared.entry.Moment.{Moment}
-use Rattle.store.specs.declared.entry.Moment.TheVariants.{Never, At}
 use Rattle.store.specs.declared.entry.Entry.{Entry}
 use Rattle.store.specs.declared.query.Query.{Query}
 
 -- ---- records
 
-unfoldable pub optional_as : Optional → Option ℤ
-optional_as Absent = none
-optional_as (Present z) = some z
-
-unfoldable pub moment_as : Moment → Option ℕ
-moment_as Never = none
-moment_as (At t) = some t
-
 unfoldable pub what_as : What → E.What ℕ
 what_as (Sample i) = E.sample i
-what_as (End e) = E.set_end (optional_as e.first) (optional_as e.own)
+what_as (End e) = E.set_end e.first e.own
 
 unfoldable pub entry_as : Entry → E.Entry ℕ
 entry_as e = record {
@@ -42,10 +30,10 @@ entry_as e = record {
   writer = e.writer;
   reader = e.reader;
   number = e.number;
-  set = optional_as e.set;
+  set = e.set;
   what = what_as e.what;
   time = e.time;
-  ended = moment_as e.ended;
+  ended = e.ended;
 }
 
 abbrev pub with_number : ℕ → E.Entry ℕ → E.Entry ℕ

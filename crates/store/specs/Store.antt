@@ -1,7 +1,7 @@
 -- What the words of a store mean. Every content means something: lengths stop at the tables' sizes, readers, items and numbers are taken
 -- modulo their ranges. Words past a length mean nothing.
 use Rattle.std.specs.Prelude.{ℕ, ◌+◌, ◌*◌, ◌/◌, ◌%◌, ◌^◌, min, cond, List, map, ℤ, eqb, length, take, drop, get_or}
-use Rattle.std.proofs.Math.Option.{Option, some, none}
+use Rattle.std.specs.Prelude.{Option, Some, None}
 use Rattle.std.specs.Int.{w64}
 use Rattle.std.proofs.Common.{to_z}
 use Rattle.laws.specs.Lists.{keep}
@@ -31,7 +31,7 @@ writer_of r = record {
 
 -- an optional number: absent, or the word as a signed number
 abbrev pub optional : ℕ → ℕ → Option ℤ
-optional t w = cond (eqb t 1) (some (to_z w64 w)) none
+optional t w = cond (eqb t 1) (Some (to_z w64 w)) None
 
 -- entry: group, writer, reader, tags, number, set, first or item, own, time, time of the set's first committed end
 -- the tags, from the lowest: two bits of stage (0 pending, 1 held, else gone), then an end, set present, first present, own present, ended
@@ -59,7 +59,7 @@ row_of r = record {
     set = optional (tag (get_or r 5 0) 3) (get_or r 7 0);
     what = what_of (get_or r 5 0) (get_or r 8 0) (get_or r 9 0);
     time = get_or r 10 0;
-    ended = cond (eqb (tag (get_or r 5 0) 6) 1) (some (get_or r 11 0)) none;
+    ended = cond (eqb (tag (get_or r 5 0) 6) 1) (Some (get_or r 11 0)) None;
   };
 }
 
@@ -104,5 +104,5 @@ live rs = length (staged 0 rs) + length (staged 1 rs)
 
 -- the mark of the first row found, if any
 abbrev pub row_mark : Option Row → Option ℕ
-row_mark none = none
-row_mark (some x) = x.entry.ended
+row_mark None = None
+row_mark (Some x) = x.entry.ended

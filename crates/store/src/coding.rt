@@ -1,11 +1,11 @@
 // An entry as a row of words.
 ghost use Rattle.std.specs.Prelude.{◌≡◌, cond, ◌%◌, ◌<◌, ◌^◌, eqb};
-ghost use Rattle.std.proofs.Math.Option.{some, none};
+ghost use Rattle.std.specs.Prelude.{Some, None};
 ghost use Rattle.rules.specs.Entry.{sample, set_end};
 ghost use Rattle.store.specs.Store.{optional, what_of, row_of, row_at};
-ghost use Rattle.store.specs.Records.{optional_as, moment_as, what_as, entry_as, coded_as};
+ghost use Rattle.store.specs.Records.{what_as, entry_as, coded_as};
 
-use crate::entry::{Entry, Moment, Optional, SetEnd, What};
+use crate::entry::{Entry, SetEnd, What};
 use crate::rows::{key_at, row_place};
 use crate::words::{ROW, Store, whole, word};
 use coherent_set::{bits_of, signed_of};
@@ -30,22 +30,22 @@ pub fn read_entry(store: &Store, i: usize) -> Entry
     }
 }
 
-fn optional_of(tag: u64, w: u64) -> Optional
-    ensures { optional_as result ≡ optional tag w }
+fn optional_of(tag: u64, w: u64) -> Option<i64>
+    ensures { result ≡ optional tag w }
 {
     if tag == 1 {
-        return Optional::Present(signed_of(w));
+        return Some(signed_of(w));
     }
-    Optional::Absent
+    None
 }
 
-fn moment_of(tag: u64, w: u64) -> Moment
-    ensures { moment_as result ≡ cond (eqb tag 1) (some w) none }
+fn moment_of(tag: u64, w: u64) -> Option<u64>
+    ensures { result ≡ cond (eqb tag 1) (Some w) None }
 {
     if tag == 1 {
-        return Moment::At(w);
+        return Some(w);
     }
-    Moment::Never
+    None
 }
 
 fn what_of(tags: u64, a: u64, b: u64) -> What
@@ -67,26 +67,26 @@ struct Coded {
     word: u64,
 }
 
-fn code_optional(o: Optional) -> Coded
+fn code_optional(o: Option<i64>) -> Coded
     ensures small { result.tag < 2 }
-    ensures back { optional result.tag result.word ≡ optional_as o }
+    ensures back { optional result.tag result.word ≡ o }
 {
     match o {
-        Optional::Present(z) => Coded {
+        Some(z) => Coded {
             tag: 1,
             word: bits_of(z),
         },
-        Optional::Absent => Coded { tag: 0, word: 0 },
+        None => Coded { tag: 0, word: 0 },
     }
 }
 
-fn code_moment(m: Moment) -> Coded
+fn code_moment(m: Option<u64>) -> Coded
     ensures small { result.tag < 2 }
-    ensures back { cond (eqb result.tag 1) (some result.word) none ≡ moment_as m }
+    ensures back { cond (eqb result.tag 1) (Some result.word) None ≡ m }
 {
     match m {
-        Moment::At(t) => Coded { tag: 1, word: t },
-        Moment::Never => Coded { tag: 0, word: 0 },
+        Some(t) => Coded { tag: 1, word: t },
+        None => Coded { tag: 0, word: 0 },
     }
 }
 

@@ -1,20 +1,22 @@
 -- The source's filter hold and the definitions, on one call and on every list of calls.
 use Prim.{Unit, tt}
-use Prim.Native.Nat.{ℕ, suc, ◌+◌, ◌-◌, ◌*◌, ◌/◌, ◌%◌, ◌^◌, min}
+use Prim.Native.Nat.{ℕ, ◌+◌, ◌*◌, ◌/◌, ◌%◌, min}
 use mathlib.Core.Path.{◌≡◌, refl, sym, ap, ◌∙◌}
 use mathlib.Core.Bool.{Bool, true, false, ◌&&◌, ◌||◌, not, cond}
 use mathlib.Core.List.{List, [], ◌∷◌, ◌++◌, map}
-use mathlib.Core.Option.{Option, some, none}
+use Rattle.std.specs.Prelude.{Option, Some, None}
 use native.Mathlib.Omega.{arith}
 use lib.IntN.{ℤ, pos, negsuc}
 use lib.Dec.{ltb, leb, eqb}
-use lib.ListN.{length, take, drop}
-use borrow.Author.Tests.{ltb-true, ltb-false, lt-ltb, eqb-true, eq-eqb, ne_eqb}
+use lib.ListN.{length, drop, length-map}
+use borrow.Author.Tests.{ltb-true, lt-ltb, eqb-true, eq-eqb, ne_eqb}
+use Rattle.std.proofs.lemmas.Bool.Decides.{nat_tests}
 use Rattle.laws.specs.Answer.{Answer, refused, answered}
 use Rattle.laws.specs.Lists.{keep, all, any, index_of, is_some}
 use Rattle.laws.proofs.Lists.{and_true, and_left, and_right, all_imp, all_map, keep_map}
 use Rattle.filter_hold.specs.Tbf.{not_after, follows, is_of}
 use Rattle.filter_hold.specs.Tbf as D
+use Rattle.filter_hold.proofs.TbfOrder.{insert_step}
 use Rattle.filter_hold.specs.declared.tbf.Time.{Time}
 use Rattle.filter_hold.specs.declared.tbf.Separation.{Separation}
 use Rattle.filter_hold.specs.declared.tbf.Held.{Held}
@@ -34,7 +36,7 @@ flat m = map (λ x. held_as x) m
 -- ---- times
 
 stops : (n : ℕ) → or_max n ≡ min n 2147483647
-stops n = (elim (ltb n (2 ^ 31)) as (λ b. ltb n (2 ^ 31) ≡ b → cond b n (2 ^ 31 - 1) ≡ min n 2147483647) [ true ↦ λ e. let h = ltb-true n (2 ^ 31) e in omega (arith, h) | false ↦ λ e. let h = ltb-false n (2 ^ 31) e in omega (arith, h) ]) refl
+stops n = grind (arith, nat_tests)
 
 from_zero_lem : (z : ℤ) → or_zero z ≡ D.from_zero z
 from_zero_lem (pos n) = refl
@@ -62,11 +64,6 @@ none_above k [] h = refl
 none_above k (x ∷ m) h =
     ap (λ b. cond (not b) (held_as x ∷ keep (λ x. not (is_of k x)) (flat m)) (keep (λ x. not (is_of k x)) (flat m))) (apart k x (and_left (ltb k x.0) _ h))
     ∙ ap (λ l. held_as x ∷ l) (none_above k m (and_right (ltb k x.0) _ h))
-
-insert_step : (h x : Held) (l : List Held) → D.insert h (x ∷ l) ≡ cond (follows h.instance x) (h ∷ x ∷ l) (x ∷ D.insert h l)
-unfolding D.insert index_of
-insert_step h x l =
-    elim (follows h.instance x) as (λ b. take (cond b 0 (suc (index_of (λ x. follows h.instance x) l))) (x ∷ l) ++ (h ∷ drop (cond b 0 (suc (index_of (λ x. follows h.instance x) l))) (x ∷ l)) ≡ cond b (h ∷ x ∷ l) (x ∷ (take (index_of (λ x. follows h.instance x) l) l ++ (h ∷ drop (index_of (λ x. follows h.instance x) l) l)))) [ true ↦ refl | false ↦ refl ]
 
 insert_none : (h : Held) → D.insert h [] ≡ h ∷ []
 unfolding D.insert index_of
@@ -142,11 +139,11 @@ not_yes false e = refl
 
 get_past : (k : ℕ) (x : ℕ × (ℕ × Time)) (m : Hold) → eqb k x.0 ≡ false → get readers k (x ∷ m) ≡ get readers k m
 unfolding get readers
-get_past k x m e = ap (λ b. cond b (some x.1) (get readers k m)) e
+get_past k x m e = ap (λ b. cond b (Some x.1) (get readers k m)) e
 
-get_own : (x : ℕ × (ℕ × Time)) (m : Hold) → get readers x.0 (x ∷ m) ≡ some x.1
+get_own : (x : ℕ × (ℕ × Time)) (m : Hold) → get readers x.0 (x ∷ m) ≡ Some x.1
 unfolding get readers
-get_own x m = ap (λ b. cond b (some x.1) (get readers x.0 m)) (eq-eqb x.0 x.0 refl)
+get_own x m = ap (λ b. cond b (Some x.1) (get readers x.0 m)) (eq-eqb x.0 x.0 refl)
 
 remove_past : (k : ℕ) (x : ℕ × (ℕ × Time)) (m : Hold) → eqb k x.0 ≡ false → remove readers k (x ∷ m) ≡ x ∷ remove readers k m
 unfolding remove readers keep
@@ -165,8 +162,8 @@ unfolding remove readers keep
 remove_own x m h = ap (λ b. cond (not b) (x ∷ keep (λ y. not (eqb x.0 y.0)) m) (keep (λ y. not (eqb x.0 y.0)) m)) (eq-eqb x.0 x.0 refl) ∙ keeps_above x.0 m h
 
 and_past : (u : Option (ℕ × Time)) (k : ℕ) (x : ℕ × (ℕ × Time)) (r : List (ℕ × ℕ) × Hold) → and_item u k (r.0, x ∷ r.1) ≡ ((and_item u k r).0, x ∷ (and_item u k r).1)
-and_past none k x r = refl
-and_past (some v) k x r = refl
+and_past None k x r = refl
+and_past (Some v) k x r = refl
 
 skip_first : (x : ℕ × (ℕ × Time)) (ks : List ℕ) (m : Hold) → apart_from x.0 ks ≡ true → take_each ks (x ∷ m) ≡ ((take_each ks m).0, x ∷ (take_each ks m).1)
 unfolding take_each all
@@ -198,7 +195,7 @@ taken_same p (x ∷ m) h =
     elim (p x) as (λ b. take_each (map (λ x. x.0) (cond b (x ∷ keep p m) (keep p m))) (x ∷ m) ≡ (map pair_of (cond b (x ∷ keep p m) (keep p m)), cond (not b) (x ∷ keep (λ x. not (p x)) m) (keep (λ x. not (p x)) m))) [
       | true ↦
           ap (λ u. and_item u x.0 (take_each (map (λ x. x.0) (keep p m)) (remove readers x.0 (x ∷ m)))) (get_own x m)
-          ∙ ap (λ r. and_item (some x.1) x.0 (take_each (map (λ x. x.0) (keep p m)) r)) (remove_own x m up)
+          ∙ ap (λ r. and_item (Some x.1) x.0 (take_each (map (λ x. x.0) (keep p m)) r)) (remove_own x m up)
           ∙ ap (λ (r : List (ℕ × ℕ) × Hold). ((x.0, x.1.0) ∷ r.0, r.1)) ih
       | false ↦ skip_first x (map (λ x. x.0) (keep p m)) m (keys_apart x.0 p m up) ∙ ap (λ (r : List (ℕ × ℕ) × Hold). (r.0, x ∷ r.1)) ih
     ]
@@ -207,14 +204,6 @@ words_same : (l : Hold) → words (map pair_of l) ≡ D.words (flat l)
 unfolding words D.words held_as
 words_same [] = refl
 words_same (x ∷ l) = ap (λ w. x.0 ∷ x.1.0 ∷ w) (words_same l)
-
-flat_length : (l : Hold) → length (flat l) ≡ length l
-flat_length [] = refl
-flat_length (x ∷ l) = ap suc (flat_length l)
-
-pair_length : (l : Hold) → length (map pair_of l) ≡ length l
-pair_length [] = refl
-pair_length (x ∷ l) = ap suc (pair_length l)
 
 due_flat : (now : Time) (m : Hold) → D.due_at now (flat m) ≡ flat (keep (λ x. not_after x.1.1 now) m)
 unfolding D.due_at held_as
@@ -237,7 +226,7 @@ cond_map f false u v = refl
 known_same : (k : ℕ) (m : Hold) → is_some (get readers k m) ≡ any (λ x. is_of k x) (flat m)
 unfolding get readers any is_some is_of held_as
 known_same k [] = refl
-known_same k (x ∷ m) = elim (eqb k x.0) as (λ b. is_some (cond b (some x.1) (get readers k m)) ≡ b || any (λ x. is_of k x) (flat m)) [ true ↦ refl | false ↦ known_same k m ]
+known_same k (x ∷ m) = elim (eqb k x.0) as (λ b. is_some (cond b (Some x.1) (get readers k m)) ≡ b || any (λ x. is_of k x) (flat m)) [ true ↦ refl | false ↦ known_same k m ]
 
 held_one : (k i : ℕ) (arrival : Time) (s : Separation) (m : Hold) → ascends readers m ≡ true → flat (hold m k i arrival (nanos_of s)) ≡ D.insert (record { instance = k; item = i; due = D.time_after arrival s }) (D.supersede k (flat m))
 unfolding hold held_as
@@ -266,7 +255,7 @@ hold_same k i arrival s m h =
     cond_map also (leb 1000000000 s.nanosec) ((refused 10, []), m) (cond (not (is_some (get readers k m)) && leb 32 (length m)) ((refused 8, []), m) ((answered 0, []), hold m k i arrival (nanos_of s)))
     ∙ ap (λ r. cond (leb 1000000000 s.nanosec) ((refused 10, []), flat m) r) (cond_map also (not (is_some (get readers k m)) && leb 32 (length m)) ((refused 8, []), m) ((answered 0, []), hold m k i arrival (nanos_of s)))
     ∙ ap (λ b. cond (leb 1000000000 s.nanosec) ((refused 10, []), flat m) (cond (not b && leb 32 (length m)) ((refused 8, []), flat m) ((answered 0, []), flat (hold m k i arrival (nanos_of s))))) (known_same k m)
-    ∙ ap (λ n. cond (leb 1000000000 s.nanosec) ((refused 10, []), flat m) (cond (not (any (λ x. is_of k x) (flat m)) && leb 32 n) ((refused 8, []), flat m) ((answered 0, []), flat (hold m k i arrival (nanos_of s))))) (sym (flat_length m))
+    ∙ ap (λ n. cond (leb 1000000000 s.nanosec) ((refused 10, []), flat m) (cond (not (any (λ x. is_of k x) (flat m)) && leb 32 n) ((refused 8, []), flat m) ((answered 0, []), flat (hold m k i arrival (nanos_of s))))) (sym (length-map m (λ x. held_as x)))
     ∙ ap (λ l. cond (leb 1000000000 s.nanosec) ((refused 10, []), flat m) (cond (not (any (λ x. is_of k x) (flat m)) && leb 32 (length (flat m))) ((refused 8, []), flat m) ((answered 0, []), l))) (held_one k i arrival s m h)
     ∙ told_case (leb 1000000000 s.nanosec) (not (any (λ x. is_of k x) (flat m)) && leb 32 (length (flat m))) (flat m) (D.insert (record { instance = k; item = i; due = D.time_after arrival s }) (D.supersede k (flat m)))
 
@@ -277,7 +266,7 @@ take_same now out m h =
     let d : Hold = keep p m in
     ap (λ (r : List (ℕ × ℕ) × Hold). also (cond (ltb (length out / 2) (length r.0)) ((refused 5, out), m) ((answered (length r.0), words r.0 ++ drop (length r.0 * 2) out), r.1))) (taken_same p m h)
     ∙ ap (λ w. also (cond (ltb (length out / 2) (length (map pair_of d))) ((refused 5, out), m) ((answered (length (map pair_of d)), w ++ drop (length (map pair_of d) * 2) out), keep (λ x. not (p x)) m))) (words_same d)
-    ∙ ap (λ n. also (cond (ltb (length out / 2) n) ((refused 5, out), m) ((answered n, D.words (flat d) ++ drop (n * 2) out), keep (λ x. not (p x)) m))) (pair_length d ∙ sym (flat_length d))
+    ∙ ap (λ n. also (cond (ltb (length out / 2) n) ((refused 5, out), m) ((answered n, D.words (flat d) ++ drop (n * 2) out), keep (λ x. not (p x)) m))) (length-map d pair_of ∙ sym (length-map d (λ x. held_as x)))
     ∙ cond_map also (ltb (length out / 2) (length (flat d))) ((refused 5, out), m) ((answered (length (flat d)), D.words (flat d) ++ drop (length (flat d) * 2) out), keep (λ x. not (p x)) m)
     ∙ ap (λ l. cond (ltb (length out / 2) (length (flat d))) ((refused 5, out), flat m) ((answered (length (flat d)), D.words (flat d) ++ drop (length (flat d) * 2) out), l)) (sym (left_flat now m))
     ∙ ap (λ l. cond (ltb (length out / 2) (length l)) ((refused 5, out), flat m) ((answered (length l), D.words l ++ drop (length l * 2) out), D.not_due_at now (flat m))) (sym (due_flat now m))
@@ -312,8 +301,8 @@ take_ascends true m k out w n h g = h
 take_ascends false m k out w n h g = g
 
 and_ascends : (u : Option (ℕ × Time)) (k : ℕ) (r : List (ℕ × ℕ) × Hold) → ascends readers r.1 ≡ true → ascends readers (and_item u k r).1 ≡ true
-and_ascends none k r h = h
-and_ascends (some v) k r h = h
+and_ascends None k r h = h
+and_ascends (Some v) k r h = h
 
 each_ascends : (ks : List ℕ) (m : Hold) → ascends readers m ≡ true → ascends readers (take_each ks m).1 ≡ true
 unfolding take_each
@@ -348,7 +337,7 @@ unfolding is_empty
 tbf_alike cs = record {
   answers_same = answers_from cs new none_ascends;
   hold_same = run_from cs new none_ascends;
-  empty_is = ap (λ n. eqb n 0) (sym (flat_length (run new cs)) ∙ ap (λ l. length l) (run_from cs new none_ascends));
+  empty_is = ap (λ n. eqb n 0) (sym (length-map (run new cs) (λ x. held_as x)) ∙ ap (λ l. length l) (run_from cs new none_ascends));
 }
 
 -- ---- the code: from any hold whose instances rise (filter_hold/proofs/TbfOrder.antt), what the contracts say is the source's
@@ -365,5 +354,5 @@ unfolding map_of held_as
 flat_map [] = refl
 flat_map (x ∷ l) = ap (λ m. x ∷ m) (flat_map l)
 
-pub code_same : (h : TbfHold) (c : Call) → D.rising (D.hold_as h) ≡ true → step_by (D.hold_as h) c ≡ also (step (map_of (D.hold_as h)) c)
-code_same h c r = ap (λ l. step_by l c) (sym (flat_map (D.hold_as h))) ∙ sym (step_same (map_of (D.hold_as h)) c (as_ascends (D.hold_as h) r))
+pub code_same : (h : TbfHold) (c : Call) → D.rising h.held.items ≡ true → step_by h.held.items c ≡ also (step (map_of h.held.items) c)
+code_same h c r = ap (λ l. step_by l c) (sym (flat_map h.held.items)) ∙ sym (step_same (map_of h.held.items) c (as_ascends h.held.items r))

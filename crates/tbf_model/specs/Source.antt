@@ -1,7 +1,7 @@
 -- TbfHold and time_after of presentation.rs, function by function; K and S are numbers, and a map is an ascending list (source_model's
 -- specs/Map.antt). u128 is whole numbers: with separations of document 01's form no sum of time_after reaches 2^64.
 use Rattle.std.specs.Prelude.{ℕ, ◌+◌, ◌-◌, ◌*◌, ◌/◌, ◌%◌, ◌^◌, Bool, cond, List, [], ◌∷◌, map, ℤ, pos, negsuc, ltb, eqb, length}
-use Rattle.std.proofs.Math.Option.{Option, some, none}
+use Rattle.std.specs.Prelude.{Option, Some, None}
 use Rattle.laws.specs.Lists.{keep}
 use Rattle.filter_hold.specs.Tbf.{not_after}
 use Rattle.filter_hold.specs.declared.tbf.Time.{Time}
@@ -38,8 +38,8 @@ supersede held instance = remove readers instance held
 
 -- filter_map(|k| self.held.remove(&k).map(|(s, _)| (k, s)))
 abbrev pub and_item : Option (ℕ × Time) → ℕ → List (ℕ × ℕ) × Hold → List (ℕ × ℕ) × Hold
-and_item none k r = r
-and_item (some v) k r = ((k, v.0) ∷ r.0, r.1)
+and_item None k r = r
+and_item (Some v) k r = ((k, v.0) ∷ r.0, r.1)
 
 unfoldable pub take_each : List ℕ → Hold → List (ℕ × ℕ) × Hold
 take_each [] held = ([], held)

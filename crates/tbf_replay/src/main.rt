@@ -10,292 +10,158 @@
 // Numbers are decimal. Any other line is `bad`. Before the first line nothing is held.
 #![tactic(auto)]
 
-ghost use Rattle.std.specs.Prelude.{◌≤◌};
-
-use decimal::{put_bytes, put_signed, put_unsigned};
-use fields::{field_count, long_at, number_at, only_byte, word_at};
-use filter_hold::tbf::{DueAnswer, Held, HoldAnswer, Separation, TbfHold, Time};
-use line_input::{begin, next_line};
+use decimal::text::{put_bytes, put_signed, put_unsigned};
+use fields::line::Fields;
+use filter_hold::tbf::{Separation, TbfHold, Time, time_after};
+use line_input::Lines;
+use line_output::Output;
+use line_output::answers::{Text, answer_lines};
+use refusals::Refusal;
 use std::io;
 
-// Room for every answer: 32 samples of at most 55 bytes.
-type Out = [u8; 2048];
+// ---- fields: none where they are bad
 
-// No good line has more than 78 bytes, so one that is cut to fit is bad, as it was.
-type Line = [u8; 256];
-
-// The hold after a call, and how many bytes of the answer there are.
-#[derive(Drop)]
-struct Answer {
-    hold: TbfHold,
-    length: usize,
+fn take_time(fields: &mut Fields) -> Option<Time> {
+    Some(Time {
+        sec: i32::try_from(fields.number()?).ok()?,
+        nanosec: fields.word()?,
+    })
 }
 
-fn wide(x: i32) -> i64 {
-    x as i64
+fn take_separation(fields: &mut Fields) -> Option<Separation> {
+    Some(Separation {
+        sec: fields.word()?,
+        nanosec: fields.word()?,
+    })
 }
 
-fn say(hold: TbfHold, text: &[u8], out: &mut Out) -> Answer {
-    let length = put_bytes(out, 0, text);
-    Answer { hold, length }
+// ---- answers
+
+fn put_refusal(text: &mut Text, refusal: Refusal) {
+    put_bytes(text, b"refused ");
+    put_unsigned(text, refusal.number());
 }
 
-fn say_ok(hold: TbfHold, out: &mut Out) -> Answer {
-    say(hold, b"ok\n", out)
+fn put_sample(text: &mut Text, instance: u64, item: u64) {
+    put_bytes(text, b" ");
+    put_unsigned(text, instance);
+    put_bytes(text, b":");
+    put_unsigned(text, item);
 }
 
-fn say_bad(hold: TbfHold, out: &mut Out) -> Answer {
-    say(hold, b"bad\n", out)
+fn put_time(text: &mut Text, t: Time, between: &[u8]) {
+    put_signed(text, i64::from(t.sec));
+    put_bytes(text, between);
+    put_unsigned(text, u64::from(t.nanosec));
 }
 
-// What was read of fields, with whether they are good.
-#[derive(Drop)]
-struct ReadSeconds {
-    ok: bool,
-    value: i32,
-}
-
-#[derive(Drop)]
-struct ReadTime {
-    ok: bool,
-    value: Time,
-}
-
-#[derive(Drop)]
-struct ReadSeparation {
-    ok: bool,
-    value: Separation,
-}
-
-fn seconds_at(line: &[u8], k: usize) -> ReadSeconds {
-    let read = number_at(line, k);
-    let x = read.value;
-    let bad = ReadSeconds {
-        ok: false,
-        value: 0,
-    };
-    if x < -2147483648 {
-        return bad;
-    }
-    if 2147483647 < x {
-        return bad;
-    }
-    ReadSeconds {
-        ok: read.ok,
-        value: x as i32,
+fn put_held(text: &mut Text, hold: &TbfHold) {
+    put_bytes(text, b"held");
+    for x in hold.held.iter() {
+        put_sample(text, x.instance, u64::from(x.item));
+        put_bytes(text, b":");
+        put_time(text, x.due, b":");
     }
 }
 
-fn time_at(line: &[u8], sec: usize, nanosec: usize) -> ReadTime {
-    let first = seconds_at(line, sec);
-    let second = word_at(line, nanosec);
-    let value = Time {
-        sec: first.value,
-        nanosec: second.value,
-    };
-    ReadTime {
-        ok: first.ok & second.ok,
-        value,
+// ---- calls: none where the line is bad
+
+fn hold_one(hold: &mut TbfHold, mut fields: Fields, text: &mut Text) -> Option<()> {
+    let instance = fields.unsigned()?;
+    let item = fields.word()?;
+    let arrival = take_time(&mut fields)?;
+    let separation = take_separation(&mut fields)?;
+    fields.end()?;
+    match hold.hold(instance, item, arrival, separation) {
+        Ok(()) => put_bytes(text, b"ok"),
+        Err(refusal) => put_refusal(text, refusal),
     }
+    Some(())
 }
 
-fn separation_at(line: &[u8], sec: usize, nanosec: usize) -> ReadSeparation {
-    let first = word_at(line, sec);
-    let second = word_at(line, nanosec);
-    let value = Separation {
-        sec: first.value,
-        nanosec: second.value,
-    };
-    ReadSeparation {
-        ok: first.ok & second.ok,
-        value,
-    }
+fn supersede(hold: &mut TbfHold, mut fields: Fields, text: &mut Text) -> Option<()> {
+    let instance = fields.unsigned()?;
+    fields.end()?;
+    hold.supersede(instance);
+    put_bytes(text, b"ok");
+    Some(())
 }
 
-fn hold_one(hold: TbfHold, line: &[u8], out: &mut Out) -> Answer {
-    let instance = long_at(line, 1);
-    let item = word_at(line, 2);
-    let arrival = time_at(line, 3, 4);
-    let separation = separation_at(line, 5, 6);
-    let good = instance.ok & item.ok & arrival.ok & separation.ok;
-    if !good | (field_count(line) != 7) {
-        return say_bad(hold, out);
-    }
-    let from = arrival.value;
-    let apart = separation.value;
-    let holding = hold.hold(instance.value, item.value, from, apart);
-    let after = holding.hold;
-    let answer = holding.answer;
-    match answer {
-        HoldAnswer::Held => say_ok(after, out),
-        HoldAnswer::BadSeparation => say(after, b"refused 10\n", out),
-        HoldAnswer::Full => say(after, b"refused 8\n", out),
-    }
-}
-
-fn supersede(hold: TbfHold, line: &[u8], out: &mut Out) -> Answer {
-    let instance = long_at(line, 1);
-    if instance.ok & (field_count(line) == 2) {
-        return say_ok(hold.supersede(instance.value), out);
-    }
-    say_bad(hold, out)
-}
-
-// The words of a list with room for so many samples; more than 32 are never due.
-fn words_for(places: u64) -> usize
-    ensures { result ≤ 64 }
-{
-    if places < 32 {
-        return places as usize * 2;
-    }
-    64
-}
-
-fn take_due(hold: TbfHold, line: &[u8], out: &mut Out) -> Answer {
-    let now = time_at(line, 1, 2);
-    let places = long_at(line, 3);
-    let good = now.ok & places.ok;
-    if !good | (field_count(line) != 4) {
-        return say_bad(hold, out);
-    }
-    let time = now.value;
+// Lends a list with room for so many samples; more than 32 are never due.
+fn take_due(hold: &mut TbfHold, mut fields: Fields, text: &mut Text) -> Option<()> {
+    let time = take_time(&mut fields)?;
+    let places = fields.unsigned()?.min(32) as usize;
+    fields.end()?;
     let mut words = [0u64; 64];
-    let room = words_for(places.value);
-    let taking = hold.take_due(time, &mut words[0..room]);
-    let after = taking.hold;
-    let answer = taking.answer;
-    match answer {
-        DueAnswer::Taken(n) => say_taken(after, n, &words, out),
-        DueAnswer::ListTooShort => say(after, b"refused 5\n", out),
-    }
-}
-
-fn put_sample(out: &mut Out, at: usize, instance: u64, item: u64) -> usize {
-    let mut next = put_bytes(out, at, b" ");
-    next = put_unsigned(out, next, instance);
-    next = put_bytes(out, next, b":");
-    put_unsigned(out, next, item)
-}
-
-fn say_taken(hold: TbfHold, n: usize, words: &[u64; 64], out: &mut Out) -> Answer {
-    let mut at = put_bytes(out, 0, b"out");
-    let mut i: usize = 0;
-    while i < 32 {
-        if i < n {
-            at = put_sample(out, at, words[i * 2], words[i * 2 + 1]);
+    match hold.take_due(time, &mut words[..places * 2]) {
+        Ok(count) => {
+            put_bytes(text, b"out");
+            for sample in words.chunks_exact(2).take(count) {
+                put_sample(text, sample[0], sample[1]);
+            }
+            put_bytes(text, b" | ");
+            put_unsigned(text, hold.held.len() as u64);
         }
-        i += 1;
+        Err(refusal) => put_refusal(text, refusal),
     }
-    at = put_bytes(out, at, b" | ");
-    at = put_unsigned(out, at, hold.len as u64);
-    let length = put_bytes(out, at, b"\n");
-    Answer { hold, length }
+    Some(())
 }
 
-fn put_time(out: &mut Out, at: usize, t: Time, between: &[u8]) -> usize {
-    let mut next = put_signed(out, at, wide(t.sec));
-    next = put_bytes(out, next, between);
-    put_unsigned(out, next, t.nanosec as u64)
-}
-
-fn put_held(out: &mut Out, at: usize, x: Held) -> usize {
-    let due = x.due;
-    let mut next = put_sample(out, at, x.instance, x.item as u64);
-    next = put_bytes(out, next, b":");
-    put_time(out, next, due, b":")
-}
-
-fn say_held(hold: TbfHold, out: &mut Out) -> Answer {
-    let n = hold.len;
-    let held = hold.held;
-    let mut at = put_bytes(out, 0, b"held");
-    let mut i: usize = 0;
-    while i < 32 {
-        if i < n {
-            let x = held[i];
-            at = put_held(out, at, x);
-        }
-        i += 1;
+// The due time of a sample that `hold` would take.
+fn due_alone(mut fields: Fields, text: &mut Text) -> Option<()> {
+    let arrival = take_time(&mut fields)?;
+    let separation = take_separation(&mut fields)?;
+    fields.end()?;
+    if separation.nanosec < 1_000_000_000 {
+        put_time(text, time_after(arrival, separation), b" ");
+    } else {
+        put_refusal(text, Refusal::BadSeparation);
     }
-    let length = put_bytes(out, at, b"\n");
-    Answer { hold, length }
-}
-
-fn due_alone(hold: TbfHold, line: &[u8], out: &mut Out) -> Answer {
-    let arrival = time_at(line, 1, 2);
-    let separation = separation_at(line, 3, 4);
-    let good = arrival.ok & separation.ok;
-    if !good | (field_count(line) != 5) {
-        return say_bad(hold, out);
-    }
-    let from = arrival.value;
-    let apart = separation.value;
-    if 1000000000 <= apart.nanosec {
-        return say(hold, b"refused 10\n", out);
-    }
-    let due = filter_hold::tbf::time_after(from, apart);
-    let at = put_time(out, 0, due, b" ");
-    let length = put_bytes(out, at, b"\n");
-    Answer { hold, length }
+    Some(())
 }
 
 // A call with no fields.
-fn run_bare(hold: TbfHold, call: u8, out: &mut Out) -> Answer {
+fn run_bare(hold: &mut TbfHold, call: u8, text: &mut Text) -> Option<()> {
     match call {
-        b'N' => say_ok(TbfHold::new(), out),
-        b'A' => say_held(hold, out),
-        _ => say_bad(hold, out),
+        b'N' => {
+            hold.clear();
+            put_bytes(text, b"ok");
+        }
+        b'A' => put_held(text, hold),
+        _ => return None,
+    }
+    Some(())
+}
+
+// A line, without its newline. Its fields are read before anything is changed or put.
+fn run_line(hold: &mut TbfHold, line: &[u8], text: &mut Text) -> Option<()> {
+    let mut fields = Fields::of_line(line);
+    match fields.letter()? {
+        b'H' => hold_one(hold, fields, text),
+        b'S' => supersede(hold, fields, text),
+        b'T' => take_due(hold, fields, text),
+        b'D' => due_alone(fields, text),
+        call => {
+            fields.end()?;
+            run_bare(hold, call, text)
+        }
     }
 }
 
-// A line, without its newline. Its fields are read before anything is changed.
-fn run_line(hold: TbfHold, line: &[u8], out: &mut Out) -> Answer {
-    let call = only_byte(line, 0);
-    if field_count(line) == 1 {
-        return run_bare(hold, call, out);
+fn answer_line(hold: &mut TbfHold, line: &[u8], text: &mut Text) {
+    if run_line(hold, line, text).is_none() {
+        put_bytes(text, b"bad");
     }
-    match call {
-        b'H' => hold_one(hold, line, out),
-        b'S' => supersede(hold, line, out),
-        b'T' => take_due(hold, line, out),
-        b'D' => due_alone(hold, line, out),
-        _ => say_bad(hold, out),
-    }
+    put_bytes(text, b"\n");
 }
 
-fn print(rt: &impl Print, out: &Out, length: usize) -> io::Result<()> {
-    let text: &[u8] = out;
-    if length <= text.len() {
-        return rt.write_all(&text[0..length]);
-    }
-    Ok(())
-}
-
-// Prints the answer to the first bytes of a line.
-fn answer_line(rt: &impl Print, hold: TbfHold, line: &Line, length: usize) -> io::Result<TbfHold>
-    requires { length ≤ 256 }
-{
-    let line: &[u8] = line;
-    let mut out = [0u8; 2048];
-    let said = run_line(hold, &line[0..length], &mut out);
-    print(rt, &out, said.length)?;
-    Ok(said.hold)
-}
-
-// So that the loop is seen to end, it counts more lines than any run has.
+// No good line has more than 78 bytes, so one that is cut to fit is bad, as it was.
 fn main(rt: HostRuntime) -> io::Result<()> {
     let mut hold = TbfHold::new();
-    let mut stdin = rt.stdin();
-    let mut chunk = [0u8; 65536];
-    let mut line = [0u8; 256];
-    let mut input = begin();
-    for _ in 0..u64::MAX {
-        let next = next_line(&mut stdin, &mut chunk, input, &mut line);
-        if !next.more {
-            break;
-        }
-        hold = answer_line(&rt, hold, &line, next.length)?;
-        input = next.input;
-    }
-    Ok(())
+    let mut lines = Lines::new(rt.stdin());
+    let mut output = Output::new(rt.stdout());
+    answer_lines(&mut lines, &mut output, |text, line| {
+        answer_line(&mut hold, line, text);
+    });
+    output.into_result()
 }

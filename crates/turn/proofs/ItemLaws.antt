@@ -2,7 +2,7 @@
 use Prim.Native.Nat.{ℕ}
 use mathlib.Core.Path.{◌≡◌, sym, ap, ◌∙◌}
 use mathlib.Core.List.{List, [], ◌∷◌, ◌++◌, append-nil}
-use mathlib.Core.Option.{Option, some, none}
+use Rattle.std.specs.Prelude.{Option, Some, None}
 use native.Mathlib.Omega.{arith}
 use lib.ListN.{length, take, set, drop_of_length-le}
 use lib.Seq.{sets-eq}
@@ -20,18 +20,18 @@ unfolding participant_key
 key_made w h = sets-eq (0 ∷ 0 ∷ 0 ∷ 0 ∷ []) w 12 (omega (arith, h)) ∙ ap (λ (r : List ℕ). take 12 w ++ (0 ∷ 0 ∷ 0 ∷ 0 ∷ []) ++ r) (drop_of_length-le w {i = 16} (omega (arith, h))) ∙ append-nil (take 12 w ++ (0 ∷ 0 ∷ 0 ∷ 0 ∷ []))
 
 -- an item of a group, named or not
-pub offer_unnamed : (i : GroupItem) (m : GroupMark) (k : Guid) (o : Offer ℕ) → i.grouping ≡ Unnamed m → k ≡ participant_key i.writer → o ≡ offer_by k m i → offer_of i i.grouping ≡ some o
+pub offer_unnamed : (i : GroupItem) (m : GroupMark) (k : Guid) (o : Offer ℕ) → i.grouping ≡ Unnamed m → k ≡ participant_key i.writer → o ≡ offer_by k m i → offer_of i i.grouping ≡ Some o
 unfolding offer_of
-offer_unnamed i m k o e f g = ap (λ x. offer_of i x) e ∙ ap (λ x. some (offer_by x m i)) (sym f) ∙ ap (λ x. some x) (sym g)
+offer_unnamed i m k o e f g = ap (λ x. offer_of i x) e ∙ ap (λ x. Some (offer_by x m i)) (sym f) ∙ ap (λ x. Some x) (sym g)
 
-pub offer_named : (i : GroupItem) (m : GroupMark) (o : Offer ℕ) → i.grouping ≡ Named m → o ≡ offer_by i.group m i → offer_of i i.grouping ≡ some o
+pub offer_named : (i : GroupItem) (m : GroupMark) (o : Offer ℕ) → i.grouping ≡ Named m → o ≡ offer_by i.group m i → offer_of i i.grouping ≡ Some o
 unfolding offer_of
-offer_named i m o e g = ap (λ x. offer_of i x) e ∙ ap (λ x. some x) (sym g)
+offer_named i m o e g = ap (λ x. offer_of i x) e ∙ ap (λ x. Some x) (sym g)
 
-pub offer_taken : (s t : State ℕ) (a : Answer Fate) (q : Option (Offer ℕ)) (o : Offer ℕ) → q ≡ some o → (a, t) ≡ offer s o → (some a, t) ≡ offer_item s q
+pub offer_taken : (s t : State ℕ) (a : Answer Fate) (q : Option (Offer ℕ)) (o : Offer ℕ) → q ≡ Some o → (a, t) ≡ offer s o → (Some a, t) ≡ offer_item s q
 unfolding offer_item
-offer_taken s t a q o e f = ap (λ (y : Answer Fate × State ℕ). (some y.0, y.1)) f ∙ ap (λ x. offer_item s x) (sym e)
+offer_taken s t a q o e f = ap (λ (y : Answer Fate × State ℕ). (Some y.0, y.1)) f ∙ ap (λ x. offer_item s x) (sym e)
 
-pub offer_plain : (s : State ℕ) (i : GroupItem) → i.grouping ≡ Plain → (none, s) ≡ offer_item s (offer_of i i.grouping)
+pub offer_plain : (s : State ℕ) (i : GroupItem) → i.grouping ≡ Plain → (None, s) ≡ offer_item s (offer_of i i.grouping)
 unfolding offer_item offer_of
 offer_plain s i e = ap (λ x. offer_item s (offer_of i x)) (sym e)

@@ -2,7 +2,7 @@
 use Prim.Native.Nat.{ℕ, ◌+◌, ◌-◌, ◌^◌, ◌≤◌}
 use mathlib.Core.Path.{◌≡◌, sym, subst, ap, ◌∙◌}
 use mathlib.Core.List.{List, [], ◌∷◌}
-use mathlib.Core.Option.{Option, some, none}
+use Rattle.std.specs.Prelude.{Option, Some, None}
 use native.Mathlib.Omega.{arith}
 use lib.IntN.{ℤ}
 use lib.ListN.{length}
@@ -53,10 +53,10 @@ module _ (b : Counts) where
 module _ {X : Type 0} (b : Counts) where
   settle_up : (e : Entry X) (w : Work X) (x : What X) (z : Option ℤ) → Grown b w.counts → Grown b (settle e w x z).counts
   unfolding with_out with_held
-  settle_up e w (sample x) none h = h
-  settle_up e w (sample x) (some z) h = h
-  settle_up e w (set_end f o) none h = h
-  settle_up e w (set_end f o) (some z) h = h
+  settle_up e w (sample x) None h = h
+  settle_up e w (sample x) (Some z) h = h
+  settle_up e w (set_end f o) None h = h
+  settle_up e w (set_end f o) (Some z) h = h
 
   up : Stays {X = X} (λ l w. Grown b w.counts)
   unfolding discard hand_out at_group

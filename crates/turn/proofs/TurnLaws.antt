@@ -4,7 +4,7 @@ use Prim.Native.Nat.{ℕ}
 use mathlib.Core.Path.{◌≡◌, refl, sym, subst, ap, ◌∙◌}
 use mathlib.Core.Bool.{Bool, true, false, ◌&&◌, ◌||◌, cond}
 use mathlib.Core.List.{List, [], ◌∷◌, ◌++◌, map}
-use mathlib.Core.Option.{Option, some, none}
+use Rattle.std.specs.Prelude.{Option, Some, None}
 use lib.IntN.{ℤ, pos}
 use lib.Signed.{lt_z}
 use lib.Dec.{ltb}
@@ -23,7 +23,6 @@ use Rattle.rules.proofs.Reached.{run_reached}
 use Rattle.laws.proofs.Lists.{and_left, any_all, any_by_map, map_change, or_left, or_right, or_true_left, or_true_right}
 use Rattle.store.specs.Store.{state_of}
 use Rattle.group_view.specs.View.{view_of, pairs_of, digests_of, more, pair_as, digest_row_as, rows_as, Noted, NotedDigest, NotedRows, Steps}
-use Rattle.offers.specs.Calls.{digest_as}
 use Rattle.release.specs.Released.{count_out, release_to, release_noted}
 use Rattle.history.specs.Chain.{counted}
 use Rattle.group_view.specs.declared.view.Pair.{Pair}
@@ -33,9 +32,7 @@ use Rattle.history.proofs.Noting.{zeros_cleared, noted_release}
 use Rattle.turn.specs.Turn.{Range, Row, beat_call, beat_calls, gap_calls, row_calls, applied, rows_calls, Turned, idle, not_done, since, report_of, reported, judged, turn_by, turn_to, AsCalls, range_as, heard_as, row_as, turn_as, TurnKept, verdict_as, NotedReader, go_of, judged_noted, Applies, ended_by, Ended}
 use Rattle.turn.specs.Turn as T
 use Rattle.turn.specs.declared.turn_steps.Beat.{Beat}
-use Rattle.turn.specs.declared.turn_steps.Heard.{Heard}
 use Rattle.turn.specs.declared.turn_steps.Progress.{Progress}
-use Rattle.turn.specs.declared.turn_steps.Heard.TheVariants.{Nothing, Latest}
 use Rattle.turn.specs.declared.turn_steps.Verdict.{Verdict}
 use Rattle.turn.specs.declared.turn_steps.Turn.{Turn}
 
@@ -47,7 +44,7 @@ pub record NotedTurn (rows : List Progress) (ps : List Pair) (ds : List DigestRo
 
 -- any row: what stands past a list's end
 abbrev pub no_progress : Progress
-no_progress = record { group = []; writer = []; reader = 0; heartbeat = Nothing; gap_end = pos 0 }
+no_progress = record { group = []; writer = []; reader = 0; heartbeat = None; gap_end = pos 0 }
 
 -- ---- what a heartbeat or a gap of a known pair leaves as it is
 
@@ -68,8 +65,8 @@ module _ {X Y : Type 0} where
   Quiet f = (s : State X) (g w : Guid) (c : Writer → Writer) (gs : List Group) → ((x : Writer) → name (c x) ≡ name x) → knows_writer g w s.writers ≡ true → f (with_marks gs (tell g w c s.writers) s) ≡ f s
 
   done_quiet : (f : State X → Y) (o : Option ℕ) (s t : State X) → f t ≡ f s → f (done o s t).1 ≡ f s
-  done_quiet f none s t e = e
-  done_quiet f (some n) s t e = refl
+  done_quiet f None s t e = e
+  done_quiet f (Some n) s t e = refl
 
   heartbeat_quiet : (f : State X → Y) → Quiet f → (s : State X) (h : Heartbeat) → knows_writer h.group h.writer s.writers ≡ true → f (heartbeat s h).1 ≡ f s
   unfolding heartbeat announced
@@ -98,8 +95,8 @@ module _ {X : Type 0} where
 module _ {X Y : Type 0} (f : State X → Y) (q : Quiet f) where
   beats_quiet : (s : State X) (g w : Guid) (b : Option Range) → knows_writer g w s.writers ≡ true → f (run s (beat_calls g w b)) ≡ f s
   unfolding run beat_calls beat_call step
-  beats_quiet s g w none k = refl
-  beats_quiet s g w (some b) k = heartbeat_quiet f q s (record { group = g; writer = w; first = b.first; last = b.last; current = b.current; digest = b.digest; secure = b.secure }) k
+  beats_quiet s g w None k = refl
+  beats_quiet s g w (Some b) k = heartbeat_quiet f q s (record { group = g; writer = w; first = b.first; last = b.last; current = b.current; digest = b.digest; secure = b.secure }) k
 
   gaps_quiet : (s : State X) (g w : Guid) (r : ℕ) (e : ℤ) → knows_writer g w s.writers ≡ true → f (run s (gap_calls g w r e)) ≡ f s
   unfolding run gap_calls step
@@ -212,8 +209,8 @@ module _ {X : Type 0} where
 
   beats_done : (s : State X) (g w : Guid) (b : Option Range) → Reached s → knows_writer g w s.writers ≡ true → answers s (beat_calls g w b) ≡ done_each (beat_calls g w b)
   unfolding answers beat_calls beat_call step
-  beats_done s g w none r k = refl
-  beats_done s g w (some b) r k = ap (λ a. a ∷ []) (heartbeat_done s (record { group = g; writer = w; first = b.first; last = b.last; current = b.current; digest = b.digest; secure = b.secure }) r k)
+  beats_done s g w None r k = refl
+  beats_done s g w (Some b) r k = ap (λ a. a ∷ []) (heartbeat_done s (record { group = g; writer = w; first = b.first; last = b.last; current = b.current; digest = b.digest; secure = b.secure }) r k)
 
   gaps_done : (s : State X) (g w : Guid) (n : ℕ) (e : ℤ) → Reached s → ltb 7 n ≡ false → knows_writer g w s.writers ≡ true → answers s (gap_calls g w n e) ≡ done_each (gap_calls g w n e)
   unfolding answers gap_calls step
@@ -353,26 +350,26 @@ module _ (rows : List Progress) (ps : List Pair) (ds : List DigestRow) (v : List
 -- ---- the steps in code
 
 module _ (b i t : Bool) where
-  pub judge_malformed : b ≡ true → some (not_done 9) ≡ judged b i t
+  pub judge_malformed : b ≡ true → Some (not_done 9) ≡ judged b i t
   judge_malformed e = ap (λ x. judged x i t) (sym e)
 
-  pub judge_idle : b ≡ false → i ≡ true → some idle ≡ judged b i t
+  pub judge_idle : b ≡ false → i ≡ true → Some idle ≡ judged b i t
   judge_idle e f = ap (λ x. judged false x t) (sym f) ∙ ap (λ x. judged x i t) (sym e)
 
-  pub judge_short : b ≡ false → i ≡ false → t ≡ true → some (not_done 5) ≡ judged b i t
+  pub judge_short : b ≡ false → i ≡ false → t ≡ true → Some (not_done 5) ≡ judged b i t
   judge_short e f g = ap (λ x. judged false false x) (sym g) ∙ ap (λ x. judged false x t) (sym f) ∙ ap (λ x. judged x i t) (sym e)
 
-  pub judge_goes : b ≡ false → i ≡ false → t ≡ false → none ≡ judged b i t
+  pub judge_goes : b ≡ false → i ≡ false → t ≡ false → None ≡ judged b i t
   judge_goes e f g = ap (λ x. judged false false x) (sym g) ∙ ap (λ x. judged false x t) (sym f) ∙ ap (λ x. judged x i t) (sym e)
 
 -- a row's heartbeat and its gap
-pub beat_done : (s t : State ℕ) (a : Answer (Unit {0})) (g w : Guid) (h : Heard) (b : Beat) → h ≡ Latest b
-    → (a, t) ≡ heartbeat s (record { group = g; writer = w; first = b.first; last = b.last; current = b.current; digest = digest_as b.digest; secure = digest_as b.secure })
+pub beat_done : (s t : State ℕ) (a : Answer (Unit {0})) (g w : Guid) (h : Option Beat) (b : Beat) → h ≡ Some b
+    → (a, t) ≡ heartbeat s (record { group = g; writer = w; first = b.first; last = b.last; current = b.current; digest = b.digest; secure = b.secure })
     → t ≡ run s (beat_calls g w (heard_as h))
 unfolding run beat_calls beat_call heard_as range_as step
 beat_done s t a g w h b e f = ap (λ (x : Answer (Unit {0}) × State ℕ). x.1) f ∙ ap (λ x. run s (beat_calls g w (heard_as x))) (sym e)
 
-pub beat_none : (s : State ℕ) (g w : Guid) (h : Heard) → h ≡ Nothing → s ≡ run s (beat_calls g w (heard_as h))
+pub beat_none : (s : State ℕ) (g w : Guid) (h : Option Beat) → h ≡ None → s ≡ run s (beat_calls g w (heard_as h))
 unfolding run beat_calls heard_as
 beat_none s g w h e = ap (λ x. run s (beat_calls g w (heard_as x))) (sym e)
 

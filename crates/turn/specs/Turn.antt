@@ -1,7 +1,7 @@
 -- The subscriber turn (document 01, "Operations" and "Forms").
 use Prim.{Unit}
 use Rattle.std.specs.Prelude.{ℕ, ◌-◌, ◌≡◌, Bool, true, false, ◌||◌, cond, List, [], ◌∷◌, ◌++◌, map, ℤ, pos, ltb, length}
-use Rattle.std.proofs.Math.Option.{Option, some, none}
+use Rattle.std.specs.Prelude.{Option, Some, None}
 use Rattle.std.specs.Int.Signed.{lt_z}
 use Rattle.laws.specs.Answer.{Answer, refused, answered}
 use Rattle.laws.specs.Lists.{any}
@@ -11,15 +11,12 @@ use Rattle.rules.specs.Release.{View, malformed, samples}
 use Rattle.rules.specs.Run.{Call, heartbeats, gaps, releases, step, run, written, nothing_waits}
 use Rattle.store.specs.Store.{state_of}
 use Rattle.group_view.specs.View.{pairs_of, digests_of, more, view_of, rows_as}
-use Rattle.offers.specs.Calls.{digest_as}
 use Rattle.readings.specs.Counts.{counts_as}
 use Rattle.release.specs.Released.{release_to, release_noted}
 use Rattle.history.specs.Chain.{counted}
 use Rattle.group_view.specs.declared.view.Pair.{Pair}
 use Rattle.group_view.specs.declared.view.DigestRow.{DigestRow}
 use Rattle.turn.specs.declared.turn_steps.Beat.{Beat}
-use Rattle.turn.specs.declared.turn_steps.Heard.{Heard}
-use Rattle.turn.specs.declared.turn_steps.Heard.TheVariants.{Nothing, Latest}
 use Rattle.turn.specs.declared.turn_steps.Progress.{Progress}
 use Rattle.turn.specs.declared.turn_steps.Verdict.{Verdict}
 use Rattle.turn.specs.declared.turn_steps.Verdict.TheVariants.{Goes, Idle, Malformed, Short}
@@ -56,8 +53,8 @@ module _ {X : Type 0} where
   })
 
   unfoldable pub beat_calls : Guid → Guid → Option Range → List (Call X)
-  beat_calls g w none = []
-  beat_calls g w (some b) = beat_call g w b ∷ []
+  beat_calls g w None = []
+  beat_calls g w (Some b) = beat_call g w b ∷ []
 
   unfoldable pub gap_calls : Guid → Guid → ℕ → ℤ → List (Call X)
   gap_calls g w r e = cond (lt_z (pos 0) e) (gaps (record { group = g; writer = w; reader = r; number = e }) ∷ []) []
@@ -105,15 +102,15 @@ reported b r = (report_of r.0 (since b r.1.counts), r.1, r.2)
 
 -- what it answers where it does not go on, the first that holds: 9; nothing waits; 5
 abbrev pub judged : Bool → Bool → Bool → Option Turned
-judged true i t = some (not_done 9)
-judged false true t = some idle
-judged false false true = some (not_done 5)
-judged false false false = none
+judged true i t = Some (not_done 9)
+judged false true t = Some idle
+judged false false true = Some (not_done 5)
+judged false false false = None
 
 -- the rows and a release where it goes on; else nothing changes
 abbrev pub turn_by : Option Turned → State ℕ → List Row → View → ℕ → List ℕ → Turned × State ℕ × List ℕ
-turn_by (some a) s rows v now l = (a, s, l)
-turn_by none s rows v now l = reported s.counts (release_to (applied s rows) v now l)
+turn_by (Some a) s rows v now l = (a, s, l)
+turn_by None s rows v now l = reported s.counts (release_to (applied s rows) v now l)
 
 -- 9: a malformed view, or a row with a reader above 7; 5: the list is shorter than the stored samples
 unfoldable pub turn_to : State ℕ → List Row → View → ℕ → List ℕ → Turned × State ℕ × List ℕ
@@ -130,11 +127,11 @@ pub record AsCalls (s : State ℕ) (rows : List Row) (v : View) (now : ℕ) (l :
 -- ---- what the code's records stand for
 
 unfoldable pub range_as : Beat → Range
-range_as b = record { first = b.first; last = b.last; current = b.current; digest = digest_as b.digest; secure = digest_as b.secure }
+range_as b = record { first = b.first; last = b.last; current = b.current; digest = b.digest; secure = b.secure }
 
-unfoldable pub heard_as : Heard → Option Range
-heard_as Nothing = none
-heard_as (Latest b) = some (range_as b)
+unfoldable pub heard_as : Option Beat → Option Range
+heard_as None = None
+heard_as (Some b) = Some (range_as b)
 
 unfoldable pub row_as : Progress → Row
 row_as p = record { group = p.group; writer = p.writer; reader = p.reader; heartbeat = heard_as p.heartbeat; gap_end = p.gap_end }
@@ -147,10 +144,10 @@ turn_as (Done r) = released r.count (counts_as r.grown)
 
 -- a verdict: the turn goes on, or document 01's number or value of what it answers
 unfoldable pub verdict_as : Verdict → Option Turned
-verdict_as Goes = none
-verdict_as Idle = some idle
-verdict_as Malformed = some (not_done 9)
-verdict_as Short = some (not_done 5)
+verdict_as Goes = None
+verdict_as Idle = Some idle
+verdict_as Malformed = Some (not_done 9)
+verdict_as Short = Some (not_done 5)
 
 -- nothing released: every word stays
 unfoldable pub TurnKept : Turned → List ℕ → List ℕ → Type 0
@@ -170,8 +167,8 @@ pub record NotedReader (p : Progress) (v u : List ℕ) : Type 0 where
   pub any_more : more u ≡ (more v || ltb 7 p.reader)
 
 unfoldable pub go_of : Option Turned → Bool
-go_of none = true
-go_of (some a) = false
+go_of None = true
+go_of (Some a) = false
 
 -- the judgement on the rows that a view has noted
 unfoldable pub judged_noted : List ℕ → State ℕ → ℕ → Option Turned
@@ -183,8 +180,8 @@ Applies true p l m = state_of m ≡ run (state_of l) (row_calls (state_of l) (ro
 Applies false p l m = m ≡ l
 
 abbrev pub ended_by : Option Turned → List ℕ → State ℕ → ℕ → List ℕ → Turned × State ℕ × List ℕ
-ended_by none v s now l = reported s.counts (release_noted v s now l)
-ended_by (some a) v s now l = (a, s, l)
+ended_by None v s now l = reported s.counts (release_noted v s now l)
+ended_by (Some a) v s now l = (a, s, l)
 
 -- the last step: a release, or what was judged
 pub record Ended (d : Option Turned) (l v : List ℕ) (now : ℕ) (o : List ℕ) (r : Turn) (m p : List ℕ) : Type 0 where

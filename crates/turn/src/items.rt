@@ -6,7 +6,7 @@ ghost use Rattle.turn.specs.Items.{participant_key, offer_by, brings, offer_item
 
 use history::order::GroupOrder;
 use offers::call::{Offer, Offered};
-use store::entry::{Optional, What};
+use store::entry::What;
 
 // The group of a writer whose announcement named none: its participant.
 pub fn participant_group_key(writer: [u8; 16]) -> [u8; 16]
@@ -24,7 +24,7 @@ pub fn participant_group_key(writer: [u8; 16]) -> [u8; 16]
 #[derive(Clone, Copy)]
 pub struct GroupMark {
     pub number: i64,
-    pub set: Optional,
+    pub set: Option<i64>,
     pub digest: u32,
 }
 

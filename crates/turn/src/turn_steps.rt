@@ -1,6 +1,6 @@
 // The steps of the subscriber turn, a row or a verdict at a time.
 ghost use Rattle.std.specs.Prelude.{◌≡◌, ◌-◌};
-ghost use Rattle.std.proofs.Math.Option.{none};
+ghost use Rattle.std.specs.Prelude.{None};
 ghost use Rattle.rules.specs.Run.{run};
 ghost use Rattle.store.specs.Store.{state_of};
 ghost use Rattle.readings.specs.Counts.{counts_as};
@@ -8,7 +8,7 @@ ghost use Rattle.turn.specs.Turn.{beat_calls, gap_calls, heard_as, since, verdic
 
 use group_view::view::{is_malformed, spoil};
 use history::order::GroupOrder;
-use offers::call::{Digest, Gap, Heartbeat};
+use offers::call::{Gap, Heartbeat};
 use readings::readings::{ReleaseCounts, sample_count};
 use release::release::{Released, release_noted};
 
@@ -18,14 +18,8 @@ pub struct Beat {
     pub first: i64,
     pub last: i64,
     pub current: i64,
-    pub digest: Digest,
-    pub secure: Digest,
-}
-
-#[derive(Clone, Copy)]
-pub enum Heard {
-    Nothing,
-    Latest(Beat),
+    pub digest: Option<u32>,
+    pub secure: Option<u32>,
 }
 
 // A row of a turn: how far a writer has come for a reader.
@@ -34,7 +28,7 @@ pub struct Progress {
     pub group: [u8; 16],
     pub writer: [u8; 16],
     pub reader: u8,
-    pub heartbeat: Heard,
+    pub heartbeat: Option<Beat>,
     pub gap_end: i64,
 }
 
@@ -100,12 +94,17 @@ pub fn goes(verdict: Verdict) -> bool
     }
 }
 
-fn apply_heartbeat(store: &mut [u64; 6984], group: [u8; 16], writer: [u8; 16], heartbeat: Heard)
+fn apply_heartbeat(
+    store: &mut [u64; 6984],
+    group: [u8; 16],
+    writer: [u8; 16],
+    heartbeat: Option<Beat>,
+)
     ensures { state_of store.new ≡ run (state_of store.old) (beat_calls group writer (heard_as heartbeat)) }
 {
     match heartbeat {
-        Heard::Nothing => {}
-        Heard::Latest(b) => {
+        None => {}
+        Some(b) => {
             let digest = b.digest;
             let secure = b.secure;
             GroupOrder::heartbeat(
@@ -180,7 +179,7 @@ fn difference(before: ReleaseCounts, after: ReleaseCounts) -> ReleaseCounts
 
 // The release, with the difference of counts.
 fn release_counted(store: &mut [u64; 6984], view: &[u64; 1307], time: u64, out: &mut [u64]) -> Turn
-    ensures { Ended none store.old view.now time out.old
+    ensures { Ended None store.old view.now time out.old
         result store.new out.new }
 {
     let before = GroupOrder::counts(store);

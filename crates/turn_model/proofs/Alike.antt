@@ -4,7 +4,7 @@ use Prim.Native.Nat.{ℕ, ◌≤◌}
 use mathlib.Core.Path.{◌≡◌, refl, sym, ap, subst, ◌∙◌}
 use mathlib.Core.Bool.{Bool, true, false, ◌||◌, cond}
 use mathlib.Core.List.{List, [], ◌∷◌}
-use mathlib.Core.Option.{some, none}
+use Rattle.std.specs.Prelude.{Some, None}
 use lib.Dec.{ltb}
 use lib.ListN.{length}
 use Rattle.laws.specs.Answer.{Answer, refused, answered}
@@ -150,8 +150,8 @@ module _ (turns : ℕ) (f : 513 ≤ turns) (a : Asked) (o : GroupOrder ℕ) (s :
 
   turned : (b : Bool) → is_empty o ≡ b → M.reported (turn turns a.runtime a.readers (view_of a.view) a.now o) ≡ cond b (told_idle, o) (told_report (record { released = out.0; before = heard.counts; after = out.1.counts }), out.1)
   unfolding turn
-  turned true e = ap (λ b. M.reported (cond b (none, o) (some (record { released = out.0; before = heard.counts; after = out.1.counts }), out.1))) e
-  turned false e = ap (λ b. M.reported (cond b (none, o) (some (record { released = out.0; before = heard.counts; after = out.1.counts }), out.1))) e
+  turned true e = ap (λ b. M.reported (cond b (None, o) (Some (record { released = out.0; before = heard.counts; after = out.1.counts }), out.1))) e
+  turned false e = ap (λ b. M.reported (cond b (None, o) (Some (record { released = out.0; before = heard.counts; after = out.1.counts }), out.1))) e
 
   cases : (b i t : Bool) → (malformed a.view || any (λ x. ltb 7 x.reader) rows) ≡ b → is_empty o ≡ i → ltb (length a.list) (samples o) ≡ t → Both (turn_by b i t turns a o) (T.turn_by (T.judged b i t) s rows a.view a.now a.list) a.list
   cases true i t eb ei et = record { answer = refl; list = refl; like = l; exactly = tt }

@@ -3,7 +3,7 @@ use Prim.Native.Nat.{ℕ}
 use mathlib.Core.Path.{◌≡◌, refl, sym, ap, subst, ◌∙◌}
 use mathlib.Core.Bool.{Bool, true, false, ◌&&◌, ◌||◌, not, cond}
 use mathlib.Core.List.{List, [], ◌∷◌, ◌++◌, map}
-use mathlib.Core.Option.{Option, some, none}
+use Rattle.std.specs.Prelude.{Option, Some, None}
 use lib.IntN.{ℤ, pos}
 use lib.Signed.{lt_z}
 use lib.Dec.{ltb, leb}
@@ -44,7 +44,7 @@ unfolding any
 any_right p [] b h = h
 any_right p (x ∷ a) b h = any_right p a b (or_right (p x) _ h)
 
-some_is : {A : Type 0} (a : A) → is_some (some a) ≡ true
+some_is : {A : Type 0} (a : A) → is_some (Some a) ≡ true
 unfolding is_some
 some_is a = refl
 
@@ -76,14 +76,14 @@ module _ {X : Type 0} where
   -- so neither refusal applies
   group_known : (u : Option (Group X)) (w : Guid) (b : Bool) → is_some (get guids w (or_default no_group u).writers) ≡ true → not (is_some u) && b ≡ false
   unfolding is_some no_group get
-  group_known none w b h = not_both false h refl
-  group_known (some g) w b h = refl
+  group_known None w b h = not_both false h refl
+  group_known (Some g) w b h = refl
 
-  none_refused : (g w : Guid) (o : GroupOrder X) → knows g w o ≡ true → refusal ((2, ninth g o) ∷ (3, pair33 g w o) ∷ []) ≡ none
+  none_refused : (g w : Guid) (o : GroupOrder X) → knows g w o ≡ true → refusal ((2, ninth g o) ∷ (3, pair33 g w o) ∷ []) ≡ None
   unfolding knows ninth pair33 group_at refusal
   none_refused g w o h = rw (group_known (get guids g o.groups) w (leb 8 (length o.groups)) h, h)
 
-  none_refused_gap : (g w : Guid) (r : ℕ) (o : GroupOrder X) → ltb 7 r ≡ false → knows g w o ≡ true → refusal ((1, ltb 7 r) ∷ (2, ninth g o) ∷ (3, pair33 g w o) ∷ []) ≡ none
+  none_refused_gap : (g w : Guid) (r : ℕ) (o : GroupOrder X) → ltb 7 r ≡ false → knows g w o ≡ true → refusal ((1, ltb 7 r) ∷ (2, ninth g o) ∷ (3, pair33 g w o) ∷ []) ≡ None
   unfolding knows ninth pair33 group_at refusal
   none_refused_gap g w r o e h = rw (e, group_known (get guids g o.groups) w (leb 8 (length o.groups)) h, h)
 
@@ -99,9 +99,9 @@ module _ {X : Type 0} where
 
   -- ---- one row
 
-  done_is : (u : Option ℕ) (o p : GroupOrder X) → u ≡ none → (done_unless u o p).1 ≡ p
-  done_is (some n) o p e = absurd (none_some n (sym e))
-  done_is none o p e = refl
+  done_is : (u : Option ℕ) (o p : GroupOrder X) → u ≡ None → (done_unless u o p).1 ≡ p
+  done_is (Some n) o p e = absurd (none_some n (sym e))
+  done_is None o p e = refl
 
   beat_step : (g w : Guid) (hb : HeartbeatInfo) (o : GroupOrder X) → knows g w o ≡ true
       → (step 0 o (heartbeats (record { group = g; writer = w; first = hb.first_gsn; last = hb.last_gsn; current = hb.current_gsn; digest = hb.writer_set; secure = hb.secure_writer_set }))).1 ≡ heartbeat o g w hb
@@ -126,12 +126,12 @@ module _ {X : Type 0} where
 
   beat_like : (g w : Guid) (u : Option HeartbeatInfo) (o : GroupOrder X) (s : State X) → Like (bare_order o) s → knows g w o ≡ true → Like (bare_order (beat_if u g w o)) (D.run s (beat_calls g w (range_if u)))
   unfolding beat_calls D.run
-  beat_like g w none o s l k = l
-  beat_like g w (some hb) o s l k = beaten g w hb o s l k
+  beat_like g w None o s l k = l
+  beat_like g w (Some hb) o s l k = beaten g w hb o s l k
 
   beat_known : (g w : Guid) (u : Option HeartbeatInfo) (o : GroupOrder X) → knows g w o ≡ true → knows g w (beat_if u g w o) ≡ true
-  beat_known g w none o k = k
-  beat_known g w (some hb) o k = beat_knows g w hb o
+  beat_known g w None o k = k
+  beat_known g w (Some hb) o k = beat_knows g w hb o
 
   gap_like : (b : Bool) (g w : Guid) (r : ℕ) (e : ℤ) (o : GroupOrder X) (s : State X) → ltb 7 r ≡ false → Like (bare_order o) s → knows g w o ≡ true
       → Like (bare_order (gap_if b e g w r o)) (D.run s (cond b (gaps (record { group = g; writer = w; reader = r; number = e }) ∷ []) []))
@@ -202,7 +202,7 @@ module _ {X : Type 0} where
   unfolding known_writers bare_order
   known_bare o = writers_in_bare o.groups
 
-  one_group : (o : GroupOrder X) (s : State X) → Like o s → (x : Guid × Group X) → get guids x.0 o.groups ≡ some x.1 → all (λ w. knows_writer x.0 w.0 s.writers) x.1.writers ≡ true
+  one_group : (o : GroupOrder X) (s : State X) → Like o s → (x : Guid × Group X) → get guids x.0 o.groups ≡ Some x.1 → all (λ w. knows_writer x.0 w.0 s.writers) x.1.writers ≡ true
   one_group o s l x d =
       let k = subst (λ (u : Option (Group X)). WritersLike x.0 (or_default no_group u).writers s.writers) d (l.each x.0).writers in
       all_found guids_lawful (λ w. knows_writer x.0 w.0 s.writers) (λ w. true) x.1.writers k.ascend (λ w e. known_writer x.0 w.0 x.1.writers s.writers k ∙ ap (λ u. is_some u) e ∙ some_is w.1) ∙ all_yes x.1.writers

@@ -2,7 +2,7 @@
 -- given the rows that the source asks for, in its order, answer the same.
 use Prim.{Unit}
 use Rattle.std.specs.Prelude.{ℕ, ◌≡◌, Bool, true, false, ◌||◌, List, [], ◌∷◌, ◌++◌, map, ltb, length}
-use Rattle.std.proofs.Math.Option.{Option, some, none}
+use Rattle.std.specs.Prelude.{Option, Some, None}
 use Rattle.laws.specs.Lists.{any}
 use Rattle.guids.specs.Guid.{Guid}
 use Rattle.rules.specs.State.{State, Counts, fresh}
@@ -22,8 +22,8 @@ unfoldable pub range_of : HeartbeatInfo → Range
 range_of h = record { first = h.first_gsn; last = h.last_gsn; current = h.current_gsn; digest = h.writer_set; secure = h.secure_writer_set }
 
 abbrev pub range_if : Option HeartbeatInfo → Option Range
-range_if none = none
-range_if (some h) = some (range_of h)
+range_if None = None
+range_if (Some h) = Some (range_of h)
 
 unfoldable pub row_of : Guid → Guid → ℕ → WriterGroupProgress → Row
 row_of g w r p = record { group = g; writer = w; reader = r; heartbeat = range_if p.heartbeat; gap_end = p.gap_end_gsn }
@@ -47,8 +47,8 @@ pub data Told : Type 0 where
   told_report : Report ℕ → Told
 
 abbrev pub reported : Option (Report ℕ) × GroupOrder ℕ → Told × GroupOrder ℕ
-reported (none, o) = (told_idle, o)
-reported (some r, o) = (told_report r, o)
+reported (None, o) = (told_idle, o)
+reported (Some r, o) = (told_report r, o)
 
 -- one turn: what the subscriber's runtime knows, its readers, the view, the time, the lent list
 pub record Asked : Type 0 where

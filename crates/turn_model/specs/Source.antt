@@ -1,7 +1,7 @@
 -- GroupOrdering::release of presentation.rs over the model of group_order.rs (crates/source_model). The lock is always had; a reader and
 -- its runtime entity are one number; what `deliver` and the status hooks do is not modelled, but for the samples and their order.
 use Rattle.std.specs.Prelude.{ℕ, Bool, true, false, cond, List, [], ◌∷◌, ℤ, pos}
-use Rattle.std.proofs.Math.Option.{Option, some, none}
+use Rattle.std.specs.Prelude.{Option, Some, None}
 use Rattle.std.specs.Int.Signed.{lt_z}
 use Rattle.guids.specs.Guid.{Guid}
 use Rattle.source_model.specs.Source.{HeartbeatInfo, GroupView, GroupOrder, ReleaseCounts, is_empty, known_writers, heartbeat, gap, release}
@@ -24,8 +24,8 @@ pub record Report (I : Type 0) : Type 0 where
 module _ {I : Type 0} where
   -- if let Some(hb) = progress.heartbeat
   abbrev pub beat_if : Option HeartbeatInfo → Guid → Guid → GroupOrder I → GroupOrder I
-  beat_if none group writer o = o
-  beat_if (some hb) group writer o = heartbeat o group writer hb
+  beat_if None group writer o = o
+  beat_if (Some hb) group writer o = heartbeat o group writer hb
 
   -- if progress.gap_end_gsn > 0
   abbrev pub gap_if : Bool → ℤ → Guid → Guid → ℕ → GroupOrder I → GroupOrder I
@@ -53,4 +53,4 @@ module _ {I : Type 0} where
   turn turns rt readers view now o =
       let q : GroupOrder I = heard_all rt readers o in
       let r : List (ℕ × I) × GroupOrder I = release turns q view now in
-      cond (is_empty o) (none, o) (some (record { released = r.0; before = q.counts; after = r.1.counts }), r.1)
+      cond (is_empty o) (None, o) (Some (record { released = r.0; before = q.counts; after = r.1.counts }), r.1)

@@ -26,20 +26,19 @@ use crate::key::run_key;
 use crate::rows::{
     Answer, Rows, add_digest, add_pair, bad, no_rows, run_gap_row, run_heard_row, said, spell,
 };
-use crate::say::{Out, print, say_accepted, say_offered, say_ok};
+use crate::say::{Out, say_accepted, say_offered, say_ok};
 use crate::turns::{Store, run_release_line, run_turn_line};
 use call_line::line::{LineGap, LineHeartbeat, LineOffer};
 use call_line::parse::{Parsed, parse};
 use decimal::put_bytes;
 use history::order::GroupOrder;
-use line_input::{begin, next_line};
+use line_input::Lines;
+use line_output::Output;
+use line_output::answers::{Text, answer_lines, put_front};
 use offers::call::{Accepted, Gap, Heartbeat};
 use presentation::ordering::GroupOrdering;
 use std::io;
 use turn::items::{GroupItem, GroupMark, Grouping, Ordered};
-
-// No good line has more than 129 bytes, so one that is cut to fit is bad, as it was.
-type Line = [u8; 256];
 
 fn run_start(store: &mut Store, timeout: u64, out: &mut Out) -> usize {
     let fresh = GroupOrder::new(timeout);
@@ -204,40 +203,25 @@ fn run_line(store: &mut Store, rows: Rows, line: &[u8], out: &mut Out) -> Answer
     }
 }
 
-// Prints the answer to the first bytes of a line, and answers the rows after it.
-fn answer_line(
-    rt: &impl Print,
-    store: &mut Store,
-    rows: Rows,
-    line: &Line,
-    length: usize,
-) -> io::Result<Rows> {
-    let line: &[u8] = line;
-    if line.len() < length {
-        return Ok(rows); // no line is longer
-    }
+// Answers a line, and gives the rows after it.
+fn answer_line(store: &mut Store, rows: Rows, line: &[u8], text: &mut Text) -> Rows {
     let mut out = [0u8; 4096];
-    let said = run_line(store, rows, &line[0..length], &mut out);
-    print(rt, &out, said.length)?;
-    Ok(said.rows)
+    let said = run_line(store, rows, line, &mut out);
+    put_front(text, &out, said.length);
+    said.rows
 }
 
-// So that the loop is seen to end, it counts more lines than any run has.
+// No good line has more than 129 bytes, so one that is cut to fit is bad, as it was.
 fn main(rt: HostRuntime) -> io::Result<()> {
     let start = GroupOrdering::new();
     let mut store = start.words;
     let mut rows = no_rows();
-    let mut stdin = rt.stdin();
-    let mut chunk = [0u8; 65536];
-    let mut line = [0u8; 256];
-    let mut input = begin();
-    for _ in 0..u64::MAX {
-        let next = next_line(&mut stdin, &mut chunk, input, &mut line);
-        if !next.more {
-            break;
-        }
-        rows = answer_line(&rt, &mut store, rows, &line, next.length)?;
-        input = next.input;
-    }
-    Ok(())
+    let mut lines = Lines::new(rt.stdin());
+    let mut output = Output::new(rt.stdout());
+    answer_lines(
+        &mut lines,
+        &mut output,
+        |text, line| rows = answer_line(&mut store, rows, line, text),
+    );
+    output.into_result()
 }

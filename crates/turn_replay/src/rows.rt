@@ -4,7 +4,7 @@ use call_line::line::{LineGap, LineHeartbeat};
 use call_line::parse::{Parsed, parse};
 use decimal::{field_end, put_bytes};
 use group_view::view::{DigestRow, Pair};
-use turn::turn_steps::{Beat, Heard, Progress};
+use turn::turn_steps::{Beat, Progress};
 
 // One counted row and one digest row more than a view takes, so that there can be too many.
 #[derive(Clone, Copy)]
@@ -40,7 +40,7 @@ pub(crate) fn emptied(rows: Rows, length: usize) -> Answer {
     said(rows, length)
 }
 
-fn row_of(line: LineGap, heartbeat: Heard) -> Progress {
+fn row_of(line: LineGap, heartbeat: Option<Beat>) -> Progress {
     let gap = line.gap();
     let group = gap.group;
     let writer = gap.writer;
@@ -53,7 +53,7 @@ fn row_of(line: LineGap, heartbeat: Heard) -> Progress {
     }
 }
 
-fn latest(line: LineHeartbeat) -> Heard {
+fn latest(line: LineHeartbeat) -> Option<Beat> {
     let digest = line.digest;
     let secure = line.secure;
     let beat = Beat {
@@ -63,7 +63,7 @@ fn latest(line: LineHeartbeat) -> Heard {
         digest,
         secure,
     };
-    Heard::Latest(beat)
+    Some(beat)
 }
 
 pub(crate) fn no_rows() -> Rows {
@@ -73,7 +73,7 @@ pub(crate) fn no_rows() -> Rows {
         reader: 0,
         number: 0,
     };
-    let row = row_of(line, Heard::Nothing);
+    let row = row_of(line, None);
     let list = [row; 64];
     let group = row.group;
     let pair = Pair {
@@ -194,7 +194,7 @@ pub(crate) fn run_gap_row(rows: Rows, fields: &[u8], out: &mut Out) -> Answer {
     let Parsed::Gap(gap) = parsed else {
         return bad(rows, out);
     };
-    add_row(rows, row_of(gap, Heard::Nothing), out)
+    add_row(rows, row_of(gap, None), out)
 }
 
 // Where the field after the one that ends at `end` begins. No line has more than 256 bytes.

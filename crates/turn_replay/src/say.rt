@@ -2,7 +2,6 @@
 use decimal::{put_bytes, put_unsigned};
 use offers::call::{Accepted, Offered};
 use readings::readings::ReleaseCounts;
-use std::io;
 
 // Room for every answer: 256 samples of at most 13 bytes, and eight counts.
 pub(crate) type Out = [u8; 4096];
@@ -73,12 +72,4 @@ pub(crate) fn put_samples(out: &mut Out, at: usize, list: &[u64], count: usize) 
         i += 1;
     }
     next
-}
-
-pub(crate) fn print(rt: &impl Print, out: &Out, length: usize) -> io::Result<()> {
-    let text: &[u8] = out;
-    if length <= text.len() {
-        return rt.write_all(&text[0..length]);
-    }
-    Ok(())
 }

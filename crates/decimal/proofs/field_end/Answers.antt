@@ -1,24 +1,20 @@
-use mathlib.Core.Path.{◌≡◌}
-use native.Mathlib.Omega.{arith}
-use lib.ListN.{drop, drop_of_length-le}
-use Rattle.decimal.specs.Split.{before}
-use Rattle.decimal.proofs.Splitting.{end_past, end_within, stop_here, stop_later}
+use Rattle.std.proofs.Common.{◌≡◌, ◌+◌, ℕ, MatchOption, length, refl, eqb, ◌∙◌, rules, tests}
+use Rattle.std.proofs.lemmas.Iterator.Search.{position_from_yields_List}
+use Rattle.std.proofs.lemmas.Iterator.{YieldsList-from_slice}
+use Rattle.std.proofs.lemmas.List.{take_rest}
+use Rattle.decimal.specs.Split.{field_end}
+use Rattle.decimal.proofs.Splitting.{end_found}
 use Rattle.decimal.proofs.field_end.Goals as goal
+use Rattle.decimal.proofs.field_end.Goals.{After-position}
 
-pub returns-then-s-at : goal.returns-then-s-at
-returns-then-s-at c = end_past c.args.stop c.args.s.now c.args.at c.if-s-at.true
+found : (c : After-position) (r : ℕ) → MatchOption c.position.result (r ≡ length c.args.s.now) (λ n. r ≡ c.min-from.result + n) → r ≡ field_end c.args.stop c.args.s.now c.args.at
+found c r h =
+    end_found c.args.stop c.args.s.now c.args.at c.min-from.result r c.position.result c.min-from.ensures
+    (position_from_yields_List (λ b. eqb b c.args.stop) _ _ _ c.position.ensures.ran (YieldsList-from_slice _ (c.iter.ensures.rest ∙ take_rest c.args.s.now c.min-from.result)) (λ x b q k. search (rules, tests)))
+    h
 
-pub loop-i-init : goal.loop-i-init
-loop-i-init c = (omega arith, end_within c.args.stop c.args.s.now c.args.at (omega arith))
+pub returns-in-Some : goal.returns-in-Some
+returns-in-Some c = found (goal.at.returns-in-Some c).After-position _ (rw c.in-Some.is refl)
 
-pub returns-then-ends : goal.returns-then-ends
-returns-then-ends c = omega (arith, stop_here c.args.stop c.args.s.now c.loop-i.i c.loop-i-test.true c.if-ends.true)
-
-pub loop-i-preserved : goal.loop-i-preserved
-loop-i-preserved c = omega (arith, stop_later c.args.stop c.args.s.now c.loop-i.i c.loop-i-test.true c.if-ends.false)
-
-pub returns : goal.returns
-unfolding before
-returns c = let e : before c.args.stop (drop c.loop-i.i c.args.s.now) ≡ 0 =
-    rw (drop_of_length-le c.args.s.now c.loop-i-test.false) in
-    omega arith
+pub returns-in-None : goal.returns-in-None
+returns-in-None c = found (goal.at.returns-in-None c).After-position _ (rw c.in-None.is refl)

@@ -1,7 +1,7 @@
 -- `calls::list::run_on` meets its contract.
 use Rattle.calls.proofs.Running.{ran_line}
 use Rattle.call_line.specs.Line.{Line, line_from}
-use mathlib.Core.Option.{Option}
+use Rattle.std.specs.Prelude.{Option}
 use mathlib.Core.Path.{ap}
 use Prim.Native.Nat.{ℕ}
 use mathlib.Core.Path.{sym}

@@ -1,50 +1,22 @@
--- `tbf::time_after` meets its contract: what is carried out of the nanoseconds, in seconds, and what is left make up the same number of nanoseconds.
+-- `tbf::time_after` meets its contract: what is carried, in seconds, and what is left make up the same number of nanoseconds.
+use Prim.Native.Nat.{◌+◌, min}
+use lib.IntN.{pos}
 use mathlib.Core.Path.{◌≡◌, sym, ap, ◌∙◌}
 use mir.Syntax.{w32}
 use mir.Val.{to_z, of_z, SFits}
 use native.Mathlib.Omega.{arith}
 use borrow.Author.Rules.{rules}
-use Rattle.filter_hold.specs.Tbf.{time_after}
-use Rattle.filter_hold.proofs.TbfLaws.{from_fits, time_split, seconds_joined}
+use Rattle.filter_hold.specs.Tbf.{time_after, from_zero}
+use Rattle.filter_hold.proofs.TbfLaws.{not_negative, stopped, time_split}
 use Rattle.filter_hold.proofs.tbf.time_after.Goals as goal
-
-pub overflow_add-at : goal.overflow_add-at
-overflow_add-at c = let o = seconds_joined _ _ c.carry-own.ensures in
-    omega (arith, o.1)
-
-pub carry-sum-requires : goal.carry-sum-requires
-carry-sum-requires c = let o = seconds_joined _ _ c.carry-own.ensures in
-    omega (arith, o.1)
-
-pub overflow_add-sec : goal.overflow_add-sec
-overflow_add-sec c = let f : SFits w32 c.args.at.sec = search rules in
-    let n = from_fits _ _ f c.not_negative.ensures in
-    omega (arith, n.1)
-
-pub overflow_add-sec-2 : goal.overflow_add-sec-2
-overflow_add-sec-2 c = let f : SFits w32 c.args.at.sec = search rules in
-    let n = from_fits _ _ f c.not_negative.ensures in
-    let o = seconds_joined _ _ c.carry-own.ensures in
-    omega (arith, n.1, o.0)
-
-pub overflow_add-sec-3 : goal.overflow_add-sec-3
-overflow_add-sec-3 c = let f : SFits w32 c.args.at.sec = search rules in
-    let n = from_fits _ _ f c.not_negative.ensures in
-    let o = seconds_joined _ _ c.carry-own.ensures in
-    let p = seconds_joined _ _ c.carry-sum.ensures in
-    omega (arith, n.1, o.0, o.1, p.0)
-
-pub overflow_cast-result : goal.overflow_cast-result
-overflow_cast-result c = let p = seconds_joined _ _ c.carry-sum.ensures in
-    omega (arith, p.1)
 
 pub returns : goal.returns
 unfolding time_after
-returns c = let a = c.args in
-    let f : SFits w32 a.at.sec = search rules in
-    let n = from_fits _ _ f c.not_negative.ensures in
-    let o = seconds_joined _ _ c.carry-own.ensures in
-    let p = seconds_joined _ _ c.carry-sum.ensures in
-    let z : to_z w32 (of_z w32 c.stopped.result) ≡ c.stopped.result = search rules in
-    ap (λ z. record { sec = z; nanosec = c.carry-sum.result.nanosec }) (z ∙ c.stopped.ensures)
-    ∙ sym (time_split _ c.carry-sum.result.nanosec _ p.1 (omega (arith, n.0, o.0, p.0)))
+returns c =
+    let f : SFits w32 c.args.at.sec = search rules in
+    let back : to_z w32 (of_z w32 c.args.at.sec) ≡ c.args.at.sec = search rules in
+    let n : c.unwrap_or.result ≡ from_zero c.args.at.sec = c.unwrap_or.ensures ∙ not_negative c.args.at.sec _ (rw back at c.try_from.ensures) f in
+    let s : c.unwrap_or-2.result ≡ pos (min (c.unwrap_or.result + c.from-3.result + c.carry-own.result.0 + c.carry-more.result.0) 2147483647) = c.unwrap_or-2.ensures ∙ stopped _ _ c.try_from-2.ensures in
+    let z : to_z w32 (of_z w32 c.unwrap_or-2.result) ≡ c.unwrap_or-2.result = search rules in
+    ap (λ z. record { sec = z; nanosec = c.carry-more.result.1 }) (z ∙ s)
+    ∙ sym (time_split _ c.carry-more.result.1 _ (omega arith) (omega arith))

@@ -4,10 +4,10 @@ use Rattle.offers.specs.Steps.{digest_word}
 use borrow.Author.Rules.{rules}
 use Rattle.offers.proofs.heartbeat.digest_word.Goals as goal
 
-pub returns-in-Absent : goal.returns-in-Absent
+pub returns-in-None : goal.returns-in-None
 unfolding digest_word
-returns-in-Absent c = record { is = rw c.in-Absent.is; low = omega arith }
+returns-in-None c = record { is = rw c.in-None.is; low = omega arith }
 
-pub returns-in-Present : goal.returns-in-Present
+pub returns-in-Some : goal.returns-in-Some
 unfolding digest_word
-returns-in-Present c = record { is = rw c.in-Present.is; low = search rules }
+returns-in-Some c = record { is = rw c.in-Some.is; low = search rules }

@@ -5,7 +5,7 @@ use mir.Syntax.{w64}
 use mir.ValLaws.{to_z-of_z}
 use Rattle.laws.specs.Lists.{is_some}
 use Rattle.rules.specs.Offer.{replaced}
-use Rattle.store.specs.Records.{optional_as, entry_as, Asks}
+use Rattle.store.specs.Records.{entry_as, Asks}
 use Rattle.laws.proofs.Lists.{not_both}
 use Rattle.offers.proofs.Joined.{asks_end, join_room, kept_as, joined_as}
 use borrow.Author.Rules.{rules}
@@ -15,16 +15,16 @@ use Rattle.offers.proofs.join.join_end.Goals as goal
 -- of the place After-of_pair-q
 asks : (c : After-of_pair-q) → Asks c.of_pair-q.result 1 (λ h. replaced (entry_as c.args.e) h)
 asks c =
-    asks_end _ _ _ _ _ c.requires.group c.requires.writer c.in-Present.is
-    (rw (to_z-of_z w64 c.in-Present.z (search rules)) at c.of_pair-q.ensures)
+    asks_end _ _ _ _ _ c.requires.group c.requires.writer c.in-Some.is
+    (rw (to_z-of_z w64 c.in-Some.z (search rules)) at c.of_pair-q.ensures)
 
 pub append-requires : goal.append-requires
 append-requires c = (omega (arith, c.remove_rows-k.ensures.fewer, c.entry_count-n.ensures), join_room _ _ _ _ _ (asks (goal.at.append-requires c).After-of_pair-q) (rw c.entry_count-n.ensures at c.remove_rows-k.ensures) c.requires.room, omega arith, c.requires.number)
 
-pub returns-in-Absent : goal.returns-in-Absent
-unfolding is_some optional_as
-returns-in-Absent c = not_both (is_some (optional_as c.args.e.set)) c.requires.has_set (ap (λ x. is_some (optional_as x)) c.in-Absent.is)
+pub returns-in-None : goal.returns-in-None
+unfolding is_some
+returns-in-None c = not_both (is_some c.args.e.set) c.requires.has_set (ap (λ x. is_some x) c.in-None.is)
 
-pub returns-in-Present : goal.returns-in-Present
-returns-in-Present c = let n = c.entry_count-n.ensures in
-    joined_as _ _ _ _ _ _ _ (asks (goal.at.returns-in-Present c).After-of_pair-q) (rw n at c.remove_rows-k.ensures) c.append.ensures (kept_as _ _ _ _ c.in-Present.is (rw n at c.mark_of-ended.ensures))
+pub returns-in-Some : goal.returns-in-Some
+returns-in-Some c = let n = c.entry_count-n.ensures in
+    joined_as _ _ _ _ _ _ _ (asks (goal.at.returns-in-Some c).After-of_pair-q) (rw n at c.remove_rows-k.ensures) c.append.ensures (kept_as _ _ _ _ c.in-Some.is (rw n at c.mark_of-ended.ensures))

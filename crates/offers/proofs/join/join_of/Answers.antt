@@ -5,7 +5,7 @@ use mir.Syntax.{w64}
 use mir.ValLaws.{to_z-of_z}
 use Rattle.rules.specs.Entry.{is_sample_w}
 use Rattle.rules.specs.Offer.{entry_of}
-use Rattle.store.specs.Records.{what_as, optional_as}
+use Rattle.store.specs.Records.{what_as}
 use Rattle.offers.specs.Calls.{offer_as}
 use Rattle.offers.specs.Steps.{Joins}
 use Rattle.laws.proofs.Lists.{and_never}
@@ -18,9 +18,9 @@ pub returns-in-Sample : goal.returns-in-Sample
 unfolding Joins offer_as what_as
 returns-in-Sample c = rw c.in-Sample.is
 
-pub returns-in-Absent : goal.returns-in-Absent
-unfolding Joins offer_as entry_of optional_as
-returns-in-Absent c = and_never (not (is_sample_w (what_as c.args.o.what))) _ (none_shares (entry_of (offer_as c.args.o)) (ap optional_as c.in-Absent.is) _)
+pub returns-in-None : goal.returns-in-None
+unfolding Joins offer_as entry_of
+returns-in-None c = and_never (not (is_sample_w (what_as c.args.o.what))) _ (none_shares (entry_of (offer_as c.args.o)) c.in-None.is _)
 
-pub returns-in-Present : goal.returns-in-Present
-returns-in-Present c = joins_end _ _ _ _ _ _ _ c.requires.0 c.requires.1 c.in-Present.is c.in-End.is (rw (to_z-of_z w64 c.in-Present.z (search rules)) at c.join_in_set.ensures)
+pub returns-in-Some : goal.returns-in-Some
+returns-in-Some c = joins_end _ _ _ _ _ _ _ c.requires.0 c.requires.1 c.in-Some.is c.in-End.is (rw (to_z-of_z w64 c.in-Some.z (search rules)) at c.join_in_set.ensures)

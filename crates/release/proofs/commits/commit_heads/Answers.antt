@@ -1,5 +1,5 @@
 use mathlib.Core.Path.{sym, ap, subst, ◌∙◌}
-use mathlib.Core.Option.{none}
+use Rattle.std.specs.Prelude.{None}
 use native.Mathlib.Omega.{arith}
 use Rattle.guids.specs.Keys.{key_as}
 use Rattle.store.specs.Store.{rows_in, staged}
@@ -30,7 +30,7 @@ commit_row-q-requires c = let x = c.loop-j.invariant.0 in
       q.3,
       λ h.
           let d = c.is_clean-fine.ensures h in
-          subst (λ z. Stalest (key_as c.args.group) z none (staged 1 (rows_in c.loop-j.rows c.loop-j.store))) (ap (λ y. y.set) c.read_entry-e.ensures) (d.1.stale _ _ (c.loop-j.invariant.1.stale d.0)),
+          subst (λ z. Stalest (key_as c.args.group) z None (staged 1 (rows_in c.loop-j.rows c.loop-j.store))) (ap (λ y. y.set) c.read_entry-e.ensures) (d.1.stale _ _ (c.loop-j.invariant.1.stale d.0)),
     )
 
 pub loop-j-preserved : goal.loop-j-preserved

@@ -1,8 +1,8 @@
 -- `commit_row`: the row leaves pending, the stale sets are discarded, and its entry settles.
 use mathlib.Core.Path.{sym, ap, subst, ◌∙◌}
-use mathlib.Core.Option.{none}
+use Rattle.std.specs.Prelude.{None}
 use Rattle.guids.specs.Keys.{key_as}
-use Rattle.store.specs.Records.{entry_as, optional_as}
+use Rattle.store.specs.Records.{entry_as}
 use Rattle.store.specs.Store.{rows_in, staged}
 use Rattle.sets.specs.Tied.{Stalest}
 use Rattle.sets.proofs.Spots.{fit_rows}
@@ -13,8 +13,8 @@ pub clear_stale-requires : goal.clear_stale-requires
 unfolding entry_as
 clear_stale-requires c = let b = fit_rows _ c.requires.0 in (
   b,
-  λ h. subst (λ y. Stalest (key_as c.args.group) (optional_as c.read_entry-e.result.set) none y) (sym (held_stays _ _ _ b c.requires.1 c.requires.2 _ c.vacate.ensures))
-      (subst (λ z. Stalest (key_as c.args.group) z none (staged 1 (rows_in c.args.n c.args.store.now))) (sym (ap (λ x. x.set) c.read_entry-e.ensures)) (c.requires.4 h)),
+  λ h. subst (λ y. Stalest (key_as c.args.group) c.read_entry-e.result.set None y) (sym (held_stays _ _ _ b c.requires.1 c.requires.2 _ c.vacate.ensures))
+      (subst (λ z. Stalest (key_as c.args.group) z None (staged 1 (rows_in c.args.n c.args.store.now))) (sym (ap (λ x. x.set) c.read_entry-e.ensures)) (c.requires.4 h)),
 )
 
 pub settle_entry-requires : goal.settle_entry-requires

@@ -4,13 +4,12 @@ use native.Mathlib.Omega.{arith}
 use lib.Dec.{eqb}
 use Rattle.laws.proofs.Lists.{and_right}
 use Rattle.store.specs.Store.{row_at, rows_in, staged}
-use Rattle.store.specs.Records.{optional_as, fits}
+use Rattle.store.specs.Records.{fits}
 use Rattle.store.proofs.RowLaws.{rows_from, rows_end}
 use Rattle.steps.proofs.Lowest.{stalest_none, stalest_hit, stalest_miss, stalest_all}
 use Rattle.release.proofs.commits.lowest_stale.Goals as goal
 
 pub loop-i-init : goal.loop-i-init
-unfolding optional_as
 loop-i-init c = (omega arith, rw (rows_end c.args.n c.args.store.now (omega arith)) (stalest_none _ _ (λ x. fits c.of_group-q.result x) (staged 1 (rows_in c.args.n c.args.store.now))))
 
 pub lower_stale-low-requires : goal.lower_stale-low-requires

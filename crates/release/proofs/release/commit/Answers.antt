@@ -1,6 +1,5 @@
 -- `release::commit` meets its contract: the group's committed number and the count are written, then the entries of the number are committed.
 use mathlib.Core.Path.{sym, ap, subst, ◌∙◌}
-use Rattle.store.specs.Records.{optional_as}
 use Rattle.steps.specs.Known.{Known}
 use native.Mathlib.Omega.{arith}
 use Rattle.guids.specs.Keys.{key_as}
@@ -30,7 +29,7 @@ commit_heads-requires c = let w = c.whole.ensures in
       fit_after c.args.i _ _ _ (goes_put _ _ _ _ _ _ _ _ _ w c.requires.1 c.requires.2 c.put_word.ensures.is c.add_count.ensures) c.requires.0,
       listed_same _ _ _ _ _ _ _ c.requires.3 (ap (placed 0) rows),
       ap (λ x. lowest_number (keep (λ e. of_group (key_as c.args.group) e) (staged 0 x))) rows ∙ c.requires.4,
-      subst (λ x. Known (key_as c.args.group) c.args.m.quiet c.args.m.clean (optional_as c.args.m.own) (staged 1 x)) (sym rows) c.requires.5,
+      subst (λ x. Known (key_as c.args.group) c.args.m.quiet c.args.m.clean c.args.m.own (staged 1 x)) (sym rows) c.requires.5,
     )
 
 pub returns : goal.returns

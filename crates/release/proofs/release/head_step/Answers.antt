@@ -1,6 +1,6 @@
 -- `release::head_step` meets its contract: with no set ended, the number of the list's first row decides.
 use mathlib.Core.Path.{sym, ap, ◌∙◌}
-use mathlib.Core.Option.{some}
+use Rattle.std.specs.Prelude.{Some}
 use native.Mathlib.Omega.{arith}
 use Rattle.store.proofs.RowLaws.{passed, failed}
 use Rattle.sets.proofs.Spots.{fit_rows}
@@ -15,7 +15,7 @@ commit-requires c = let b = fit_rows _ c.requires.0 in
     let q = c.place_in-head.ensures in
     let row = listed_row _ _ _ _ _ b c.requires.1 h _ q in
     let there = listed_in _ _ _ _ _ b c.requires.1 h _ q in
-    let low = listed_low _ _ _ _ _ b c.requires.1 h _ q ∙ ap some (sym c.number_at-number.ensures) in
+    let low = listed_low _ _ _ _ _ b c.requires.1 h _ q ∙ ap Some (sym c.number_at-number.ensures) in
     (c.requires.0, c.requires.2, rw c.number_at-number.ensures (number_small _ _), c.requires.1, low, c.requires.6)
 
 pub returns-then-is_ready : goal.returns-then-is_ready
@@ -24,7 +24,7 @@ returns-then-is_ready c = let b = fit_rows _ c.requires.0 in
     let q = c.place_in-head.ensures in
     let row = listed_row _ _ _ _ _ b c.requires.1 h _ q in
     let there = listed_in _ _ _ _ _ b c.requires.1 h _ q in
-    let low = listed_low _ _ _ _ _ b c.requires.1 h _ q ∙ ap some (sym c.number_at-number.ensures) in
+    let low = listed_low _ _ _ _ _ b c.requires.1 h _ q ∙ ap Some (sym c.number_at-number.ensures) in
     let w = c.went_on.ensures in
     let d = c.commit.ensures in record {
       rounds = rw (w.went, w.rows, w.out)
@@ -40,7 +40,7 @@ commit-requires-then-not-is_young c = let b = fit_rows _ c.requires.0 in
     let q = c.place_in-head.ensures in
     let row = listed_row _ _ _ _ _ b c.requires.1 h _ q in
     let there = listed_in _ _ _ _ _ b c.requires.1 h _ q in
-    let low = listed_low _ _ _ _ _ b c.requires.1 h _ q ∙ ap some (sym c.number_at-number.ensures) in
+    let low = listed_low _ _ _ _ _ b c.requires.1 h _ q ∙ ap Some (sym c.number_at-number.ensures) in
     (c.requires.0, c.requires.2, rw c.number_at-number.ensures (number_small _ _), c.requires.1, low, c.requires.6)
 
 pub returns-then-not-is_young : goal.returns-then-not-is_young
@@ -49,7 +49,7 @@ returns-then-not-is_young c = let b = fit_rows _ c.requires.0 in
     let q = c.place_in-head.ensures in
     let row = listed_row _ _ _ _ _ b c.requires.1 h _ q in
     let there = listed_in _ _ _ _ _ b c.requires.1 h _ q in
-    let low = listed_low _ _ _ _ _ b c.requires.1 h _ q ∙ ap some (sym c.number_at-number.ensures) in
+    let low = listed_low _ _ _ _ _ b c.requires.1 h _ q ∙ ap Some (sym c.number_at-number.ensures) in
     let w = c.went_on-then-not-is_young.ensures in
     let d = c.commit-then-not-is_young.ensures in record {
       rounds = rw (w.went, w.rows, w.out)
@@ -65,7 +65,7 @@ returns-else-not-is_young c = let b = fit_rows _ c.requires.0 in
     let q = c.place_in-head.ensures in
     let row = listed_row _ _ _ _ _ b c.requires.1 h _ q in
     let there = listed_in _ _ _ _ _ b c.requires.1 h _ q in
-    let low = listed_low _ _ _ _ _ b c.requires.1 h _ q ∙ ap some (sym c.number_at-number.ensures) in
+    let low = listed_low _ _ _ _ _ b c.requires.1 h _ q ∙ ap Some (sym c.number_at-number.ensures) in
     record { rounds = head_young _ _ _ _ b row _ _ _ _ _ c.requires.2 c.requires.3 c.requires.4 _ _ c.number_at-number.ensures c.committed_at-committed.ensures there (sym (c.is_ready.ensures ∙ ready_over_lem _ _ c.args.time _ _ c.requires.3 _ _ _ _ _ b c.requires.1 low c.requires.5) ∙ c.if-is_ready.false) (passed c.is_young.ensures c.if-not-is_young.false); list = c.requires.1; known = c.requires.6 }
 
 pub returns-else-a-lt256 : goal.returns-else-a-lt256

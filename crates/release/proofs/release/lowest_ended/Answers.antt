@@ -8,13 +8,13 @@ use Rattle.rules.specs.Entry.{of_group, marks}
 use Rattle.rules.specs.Sets.{lesser, lowest_set, lowest_ended}
 use Rattle.store.specs.Store.{row_at, rows_in}
 use Rattle.guids.specs.Keys.{key_as}
-use Rattle.store.specs.Records.{optional_as, fits}
+use Rattle.store.specs.Records.{fits}
 use Rattle.store.proofs.RowLaws.{rows_from, rows_end}
 use Rattle.steps.proofs.Lowest.{passing_staged, lowest_hit, lowest_miss}
 use Rattle.release.proofs.release.lowest_ended.Goals as goal
 
 pub loop-i-init : goal.loop-i-init
-unfolding keep lowest_set optional_as
+unfolding keep lowest_set
 loop-i-init c = (omega arith, rw (rows_end c.args.n c.args.store.now (omega arith)))
 
 pub loop-i-preserved-then-marks_at : goal.loop-i-preserved-then-marks_at

@@ -1,11 +1,10 @@
 -- `release::round` meets its contract: the ended set with the lowest set number comes first, then the lowest pending number.
 use mathlib.Core.Path.{sym, ap, subst, ◌∙◌}
-use mathlib.Core.Option.{none}
+use Rattle.std.specs.Prelude.{None}
 use mir.Syntax.{w64}
 use mir.ValLaws.{to_z-of_z}
 use Rattle.guids.specs.Keys.{key_as}
 use Rattle.store.specs.Store.{rows_in, staged}
-use Rattle.store.specs.Records.{optional_as}
 use Rattle.sets.specs.Tied.{Stalest}
 use Rattle.sets.proofs.Spots.{fit_rows}
 use borrow.Author.Rules.{rules}
@@ -21,14 +20,12 @@ pub lowest_ended-requires : goal.lowest_ended-requires
 lowest_ended-requires c = fit_rows _ c.requires.0
 
 pub end_step-requires : goal.end_step-requires
-unfolding optional_as
-end_step-requires c = (c.requires.0, c.requires.1, c.requires.2, c.requires.3, rw (to_z-of_z w64 c.in-Present.z (search rules)) (sym c.lowest_ended.ensures ∙ ap (λ x. optional_as x) c.in-Present.is))
+end_step-requires c = (c.requires.0, c.requires.1, c.requires.2, c.requires.3, rw (to_z-of_z w64 c.in-Some.z (search rules)) (sym c.lowest_ended.ensures ∙ ap (λ x. x) c.in-Some.is))
 
-pub head_step-requires-in-Absent : goal.head_step-requires-in-Absent
-unfolding optional_as
-head_step-requires-in-Absent c = let a = c.args in
+pub head_step-requires-in-None : goal.head_step-requires-in-None
+head_step-requires-in-None c = let a = c.args in
     let q = c.now_quiet-k.ensures in
-    let e = sym c.lowest_ended.ensures ∙ ap (λ x. optional_as x) c.in-Absent.is in (
+    let e = sym c.lowest_ended.ensures ∙ ap (λ x. x) c.in-None.is in (
       c.requires.0,
       c.requires.1,
       c.requires.2,
@@ -37,12 +34,12 @@ head_step-requires-in-Absent c = let a = c.args in
       c.requires.4,
       record {
         ended = λ h. e;
-        stale = λ h. subst (λ o. Stalest (key_as a.group) (optional_as o) none (staged 1 (rows_in a.n a.store.now))) (sym q.own) (c.requires.5.stale (sym q.clean ∙ h));
+        stale = λ h. subst (λ o. Stalest (key_as a.group) o None (staged 1 (rows_in a.n a.store.now))) (sym q.own) (c.requires.5.stale (sym q.clean ∙ h));
       },
     )
 
-pub returns-in-Present : goal.returns-in-Present
-returns-in-Present c = c.end_step.ensures
+pub returns-in-Some : goal.returns-in-Some
+returns-in-Some c = c.end_step.ensures
 
-pub returns-in-Absent : goal.returns-in-Absent
-returns-in-Absent c = c.head_step-in-Absent.ensures
+pub returns-in-None : goal.returns-in-None
+returns-in-None c = c.head_step-in-None.ensures

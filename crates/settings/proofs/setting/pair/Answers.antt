@@ -1,18 +1,7 @@
--- `pair` meets its contract.
-use Prim.Native.Nat.{◌+◌}
-use mathlib.Core.Path.{sym}
-use native.Mathlib.Omega.{arith}
+-- `setting::pair` meets its contract.
+use Rattle.std.proofs.Common.{arith}
 use Rattle.settings.proofs.Reading.{two_bytes}
 use Rattle.settings.proofs.setting.pair.Goals as goal
 
-pub overflow_mul-result : goal.overflow_mul-result
-overflow_mul-result c = omega (arith, c.wide.ensures, c.type_inv.bytes c.args.at)
-
-pub overflow_add-result : goal.overflow_add-result
-overflow_add-result c = let a = c.args in
-    let k = c.shared_slice_known-1 in
-    omega (arith, c.wide.ensures, c.wide-2.ensures, k.given a.at, k.given (a.at + 1))
-
 pub returns : goal.returns
-returns c = let a = c.args in
-    rw (c.wide.ensures, c.wide-2.ensures) (sym (two_bytes a.bytes.now a.at (omega arith)))
+returns c = rw (two_bytes c.args.bytes.now c.args.at c.requires) (omega (arith, c.from.ensures, c.from_be_bytes.ensures))

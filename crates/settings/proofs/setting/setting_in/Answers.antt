@@ -1,23 +1,17 @@
--- `setting_in` meets its contract.
-use native.Mathlib.Omega.{arith}
-use lib.ListN.{length}
-use Rattle.settings.proofs.Shown.{shown, setting_shown, good_six}
+-- `setting::setting_in` meets its contract.
+use Rattle.std.proofs.Common.{ap, sym, ◌∙◌}
+use borrow.Author.Tests.{le-leb, lt-leb}
+use Rattle.settings.proofs.Shown.{shown, shown_lifespan, setting_shown}
 use Rattle.settings.proofs.setting.setting_in.Goals as goal
 
-pub pair-requires : goal.pair-requires
-pair-requires c = omega (arith, good_six c.args.version (length c.args.bytes.now) c.requires)
+pub returns-then-version-lt2 : goal.returns-then-version-lt2
+unfolding shown shown_lifespan
+returns-then-version-lt2 c = let a = c.args in
+    rw (c.pair.ensures, c.from.ensures, c.from-2.ensures, c.pair-2.ensures)
+    (sym (setting_shown a.bytes.now (λ i. (c.type_inv.bytes i).fits) a.version c.requires ∙ ap (λ t. shown t a.bytes.now) (lt-leb 2 a.version c.if-version-lt2.true)))
 
-pub bounds-bytes-2 : goal.bounds-bytes-2
-bounds-bytes-2 c = omega (arith, good_six c.args.version (length c.args.bytes.now) c.requires)
-
-pub bounds-bytes-3 : goal.bounds-bytes-3
-bounds-bytes-3 c = omega (arith, good_six c.args.version (length c.args.bytes.now) c.requires)
-
-pub pair-requires-2 : goal.pair-requires-2
-pair-requires-2 c = omega (arith, good_six c.args.version (length c.args.bytes.now) c.requires)
-
-pub returns : goal.returns
-unfolding shown
-returns c = let a = c.args in
-    let s = setting_shown a.bytes.now (λ i. (c.type_inv.bytes i).fits) a.version c.requires in
-    rw (c.lifespan_in.ensures, s, c.pair.ensures, c.wide.ensures, c.wide-2.ensures, c.pair-2.ensures)
+pub returns-else-version-lt2 : goal.returns-else-version-lt2
+unfolding shown shown_lifespan
+returns-else-version-lt2 c = let a = c.args in
+    rw (c.pair.ensures, c.from.ensures, c.from-2.ensures, c.pair-2.ensures, c.pair-else-version-lt2.ensures)
+    (sym (setting_shown a.bytes.now (λ i. (c.type_inv.bytes i).fits) a.version c.requires ∙ ap (λ t. shown t a.bytes.now) (le-leb 2 a.version c.if-version-lt2.false)))

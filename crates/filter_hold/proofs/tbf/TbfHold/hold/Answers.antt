@@ -1,39 +1,51 @@
 -- `tbf::TbfHold::hold` meets its contract, from what its steps ensure.
 use Prim.{tt}
-use Prim.Native.Nat.{◌≤◌}
-use mathlib.Core.Path.{◌≡◌, refl, sym, ap, ◌∙◌}
+use mathlib.Core.Path.{◌≡◌, refl, sym, ◌∙◌}
+use mathlib.Core.Bool.{true, false, not, ◌&&◌}
 use native.Mathlib.Omega.{arith}
 use borrow.Author.Tests.{le-leb, lt-leb}
+use lib.Dec.{leb}
 use lib.ListN.{length}
-use borrow.Author.Rules.{rules}
-use Rattle.laws.specs.Answer.{answered, Kept}
-use Rattle.filter_hold.specs.Tbf.{hold_as, holding_as, hold_answer_as, hold, insert, supersede, time_after}
-use Rattle.laws.proofs.Arrays.{arr_len}
-use Rattle.filter_hold.proofs.TbfLaws.{take_few, full_same}
+use Rattle.std.proofs.lemmas.List.Sums.{prefix_len-le-length}
+use Rattle.laws.specs.Answer.{Kept}
+use Rattle.laws.specs.Lists.{any, index_of}
+use Rattle.filter_hold.specs.Tbf.{hold, insert, is_of, follows}
+use Rattle.filter_hold.proofs.TbfLaws.{held_any, full_at, replaces, few, room, place_index}
 use Rattle.filter_hold.proofs.tbf.TbfHold.hold.Goals as goal
+use Rattle.filter_hold.proofs.tbf.TbfHold.hold.Goals.{else-is_full-via-then-is_full+else-not-holds, else-is_full-via-else-is_full}
 
 pub returns-then-wide : goal.returns-then-wide
-unfolding hold holding_as hold_answer_as Kept
-returns-then-wide c = record { is = rw (le-leb 1000000000 c.args.separation.nanosec c.if-wide.true); kept = refl }
+unfolding hold Kept
+returns-then-wide c = record { is = rw (le-leb 1000000000 c.args.separation.nanosec (omega arith)); kept = refl }
 
-pub returns-then-n-ge32 : goal.returns-then-n-ge32
-unfolding hold holding_as hold_answer_as Kept
-returns-then-n-ge32 c = let a = c.args in
-    let l = hold_as a.self in
-    let n : length (supersede a.instance l) ≡ c.count-n.result = ap length (sym c.supersede-others.ensures) ∙ c.count-n.ensures.number in
-    let few : length l ≤ 32 = (let long : length a.self.held ≡ 32 = search (rules, arr_len) in take_few a.self long) in
-    record { is = rw (lt-leb 1000000000 a.separation.nanosec c.if-wide.false, full_same a.instance l few, le-leb 32 (length (supersede a.instance l)) (omega arith)); kept = refl }
+pub returns-then-not-holds : goal.returns-then-not-holds
+unfolding hold Kept
+returns-then-not-holds c =
+    let l = c.args.self.now.held.items in
+    let none : any (λ x. is_of c.args.instance x) l ≡ false = sym (held_any _ _) ∙ sym c.holds.ensures ∙ c.if-not-holds.true in
+    let all : leb 32 (length l) ≡ true = sym (full_at _ c.is_full.ensures.fits) ∙ sym c.is_full.ensures.value ∙ c.if-is_full.true in
+    record { is = rw (lt-leb 1000000000 c.args.separation.nanosec (omega arith), none, all); kept = refl }
+
+pub insert-requires : goal.insert-requires
+insert-requires c =
+    let l = c.args.self.now.held.items in
+    let taken : not (any (λ x. is_of c.args.instance x) l) && leb 32 (length l) ≡ false = elim c.else-is_full.branch [
+      | else-is_full-via-then-is_full+else-not-holds w ↦ replaces _ _ (sym w.holds.ensures ∙ w.if-not-holds.false)
+      | else-is_full-via-else-is_full w ↦ few _ _ c.is_full.ensures.fits (sym c.is_full.ensures.value ∙ w.if-is_full.false)
+    ] in
+    (omega arith, (rw c.place-place.ensures (prefix_len-le-length _ _), rw c.supersede.ensures (room _ _ c.is_full.ensures.fits taken)))
 
 pub returns : goal.returns
-unfolding hold holding_as hold_answer_as Kept
-returns c = let a = c.args in
-    let l = hold_as a.self in
-    let n : length (supersede a.instance l) ≡ c.count-n.result = ap length (sym c.supersede-others.ensures) ∙ c.count-n.ensures.number in
-    let few : length l ≤ 32 = (let long : length a.self.held ≡ 32 = search (rules, arr_len) in take_few a.self long) in record {
-      is = rw (lt-leb 1000000000 a.separation.nanosec c.if-wide.false, full_same a.instance l few, lt-leb 32 (length (supersede a.instance l)) (omega arith))
-          (ap (λ l. (answered tt, l))
-          (c.insert-more.ensures
-          ∙ ap (λ t. insert (record { instance = a.instance; item = a.item; due = t }) (hold_as c.supersede-others.result)) c.time_after-due.ensures
-          ∙ ap (λ l. insert (record { instance = a.instance; item = a.item; due = time_after a.arrival a.separation }) l) c.supersede-others.ensures));
+unfolding hold insert Kept
+returns c =
+    let a = c.args in
+    let l = a.self.now.held.items in
+    let taken : not (any (λ x. is_of a.instance x) l) && leb 32 (length l) ≡ false = elim c.else-is_full.branch [
+      | else-is_full-via-then-is_full+else-not-holds w ↦ replaces _ _ (sym w.holds.ensures ∙ w.if-not-holds.false)
+      | else-is_full-via-else-is_full w ↦ few _ _ c.is_full.ensures.fits (sym c.is_full.ensures.value ∙ w.if-is_full.false)
+    ] in
+    let place : c.place-place.result ≡ index_of (λ x. follows a.instance x) c.supersede.new.self.held.items = c.place-place.ensures ∙ place_index _ _ in
+    record {
+      is = rw (lt-leb 1000000000 a.separation.nanosec (omega arith), taken, c.insert.ensures.items, place, c.supersede.ensures, c.time_after-due.ensures);
       kept = tt;
     }

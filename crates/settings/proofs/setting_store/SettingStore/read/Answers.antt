@@ -1,31 +1,18 @@
--- `SettingStore::read` meets its contract: the array has eight places.
-use mathlib.Core.Path.{◌≡◌, sym, ap, ◌∙◌}
-use native.Mathlib.Omega.{arith}
-use borrow.Author.Rules.{rules}
-use lib.ListN.{length, take, length-take}
-use lib.Seq.{get_or-take}
-use Rattle.laws.specs.Answer.{answered}
-use Rattle.laws.proofs.Arrays.{arr_len}
-use Rattle.settings.specs.Store.{store_as, read_as}
-use Rattle.settings.proofs.Kept.{read_stored, read_none}
+-- `SettingStore::read` meets its contract.
+use Rattle.std.proofs.Common.{arith, ◌≡◌, refl, List, [], ◌∷◌, ℕ, zero, suc}
+use Rattle.std.proofs.lemmas.Grind.{common_steps}
+use Rattle.std.proofs.lemmas.Option.{gets}
+use Rattle.std.specs.Prelude.{slice_get, ok_or}
+use Rattle.refusals.specs.Refusal.{answer_as}
+use Rattle.refusals.specs.declared.Refusal.TheVariants as R
+use Rattle.settings.specs.Store.{read_at}
+use Rattle.settings.specs.declared.setting.Setting.{Setting}
 use Rattle.settings.proofs.setting_store.SettingStore.read.Goals as goal
 
-pub returns-then-n-age : goal.returns-then-n-age
-unfolding store_as read_as
-returns-then-n-age c = let a = c.args in
-    read_none (take a.self.len a.self.kept) a.age (omega (arith, length-take a.self.len a.self.kept))
-
-pub returns-then-unknown : goal.returns-then-unknown
-unfolding store_as read_as
-returns-then-unknown c = let a = c.args in
-    let long : length a.self.kept ≡ 8 = search (rules, arr_len) in
-    read_none (take a.self.len a.self.kept) a.age (omega (arith, length-take a.self.len a.self.kept))
+read_got : (l : List Setting) (age : ℕ) → read_at age l ≡ answer_as (ok_or (slice_get l age) R.NotStored)
+read_got [] age = refl
+read_got (x ∷ l) zero = refl
+read_got (x ∷ l) (suc age) = read_got l age
 
 pub returns : goal.returns
-unfolding store_as read_as
-returns c = let a = c.args in
-    let long : length a.self.kept ≡ 8 = search (rules, arr_len) in
-    let n = a.self.len in
-    let l = a.self.kept in
-    sym (ap (λ x. answered x) (get_or-take n l a.age _ (omega arith)))
-    ∙ read_stored (take n l) a.age _ (omega (arith, length-take n l))
+returns c = grind (arith, common_steps, gets, read_got c.args.self.now c.args.age)

@@ -1,0 +1,68 @@
+// The members of one reader's coherent sets that are held back until their set ends.
+ghost use Rattle.std.specs.Prelude.{◌≡◌, ◌≤◌, not, eqb, map, length};
+ghost use Rattle.std.specs.List.{list_any};
+ghost use Rattle.laws.specs.Lists.{keep};
+ghost use Rattle.coherent_hold.specs.Gate.{leaves, is_full, member_as, hold_as, fresh_hold};
+
+use crate::items::Member;
+use arrayvec::ArrayVec;
+
+pub type Members = ArrayVec<Member, 64>;
+
+// In the order of their arrival.
+#[derive(Clone, Drop)]
+pub struct CoherentHold {
+    pub held: Members,
+}
+
+impl CoherentHold {
+    pub fn new() -> CoherentHold
+        ensures { result ≡ fresh_hold }
+    {
+        CoherentHold {
+            held: Members::new(),
+        }
+    }
+
+    // How many members of open sets are held.
+    pub fn len(&self) -> usize
+        ensures { result ≡ length (hold_as self.now) }
+    {
+        self.held.len()
+    }
+
+    pub fn is_empty(&self) -> bool
+        ensures { result ≡ eqb (length (hold_as self.now)) 0 }
+    {
+        self.held.is_empty()
+    }
+
+    // No place is free, and the member makes none free.
+    pub(crate) fn is_full_for(&self, member: Member) -> bool
+        ensures is { result ≡ is_full (hold_as self.now) (member_as member) }
+        ensures fits { length (hold_as self.now) ≤ 64 }
+    {
+        self.held.is_full() && !self.releases_any(member.writer, Some(member.set))
+    }
+
+    fn releases_any(&self, writer: [u8; 16], new_set: Option<i64>) -> bool
+        ensures { result ≡ list_any (λ m. leaves writer new_set (member_as m)) self.now.held.items }
+    {
+        self.held.iter().any(|m| m.leaves(writer, new_set))
+    }
+
+    // Takes out the writer's members, but for those of `new_set`. Two parameters, as the source has them: a struct for them would be no plainer.
+    pub(crate) fn release(&mut self, writer: [u8; 16], new_set: Option<i64>) -> Members
+        ensures released { map (λ m. member_as m) result.items ≡ keep (λ h. leaves writer new_set h) (hold_as self.old) }
+        ensures stay { hold_as self.new ≡ keep (λ h. not (leaves writer new_set h)) (hold_as self.old) }
+    {
+        let mut released = Members::new();
+        for member in self.held.iter() {
+            if member.leaves(writer, new_set) {
+                released.push(*member);
+            }
+        }
+        self.held.retain(|m| !m.leaves(writer, new_set));
+        released
+    }
+}

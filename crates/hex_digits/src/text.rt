@@ -1,0 +1,54 @@
+// Bytes as text, two hex digits each, in lower case. The kit's crate `hex` puts its text on the heap, which a console's memory rules out.
+ghost use Rattle.std.specs.Prelude.{◌≡◌, ◌++◌, ◌<◌, take, option_map};
+ghost use Rattle.hex_digits.specs.Hex.{digit_of, hex_of, value_of, unhex, within};
+
+use arrayvec::ArrayVec;
+use decimal::text::put_bytes;
+
+// Puts the digits of bytes behind what out holds, as far as it has room.
+pub fn put_hex<const N: usize>(out: &mut ArrayVec<u8, N>, bytes: &[u8])
+    ensures { out.new.items ≡ take N (out.old.items ++ hex_of bytes.now) }
+{
+    if out.is_full() {
+        return;
+    }
+    for byte in bytes {
+        put_bytes(out, &[digit(byte / 16), digit(byte % 16)]);
+    }
+}
+
+// The bytes that text spells; none where it spells no bytes, or more than N.
+pub fn read_hex<const N: usize>(text: &[u8]) -> Option<ArrayVec<u8, N>>
+    ensures { option_map (λ v. v.items) result ≡ within N (unhex text.now) }
+{
+    let mut bytes = ArrayVec::new();
+    let mut rest = text;
+    while let [high, low, behind @ ..] = rest {
+        let byte = value(*high)? * 16 + value(*low)?;
+        if bytes.is_full() {
+            return None;
+        }
+        bytes.push(byte);
+        rest = behind;
+    }
+    if rest.is_empty() { Some(bytes) } else { None }
+}
+
+// The digit of a value.
+fn digit(n: u8) -> u8
+    requires { n < 16 }
+    ensures { result ≡ digit_of n }
+{
+    if n < 10 { b'0' + n } else { b'a' + (n - 10) }
+}
+
+// The value of a digit.
+fn value(digit: u8) -> Option<u8>
+    ensures { result ≡ value_of digit }
+{
+    match digit {
+        b'0'..=b'9' => Some(digit - b'0'),
+        b'a'..=b'f' => Some(digit - b'a' + 10),
+        _ => None,
+    }
+}
