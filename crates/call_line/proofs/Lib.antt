@@ -1,5 +1,5 @@
 pub mod Told
-mod Steps
-mod Chains
+pub mod FieldKinds
+pub mod Numbered
 pub mod Longest
 mod Examples

@@ -11,9 +11,9 @@ use lib.ListN.{length, get_or, take}
 use lib.Seq.{take_all, length-take-le}
 use Rattle.decimal.specs.Read.{at_most}
 use Rattle.decimal.proofs.Lengths.{unsigned_long, signed_long}
-use Rattle.laws.proofs.Lists.{none_some}
+use Rattle.std.proofs.lemmas.Option.{none-some}
 use Rattle.fields.specs.Fields.{lengthen, fields_of, field_at, only, up_to, byte, word, long, number}
-use Rattle.call_line.specs.Line.{◌⊛◌, optional, guid_of, guid, number_if, word_if, sized, pair_in, offer_line, start_line, counted_line, digest_line, sample_line, end_line, heartbeat_line, gap_line, release_line, line_by, line_of}
+use Rattle.call_line.specs.Line.{◌⊛◌, optional, guid_of, guid, number_if, word_if, sized, start_line, counted_line, digest_line, sample_line, end_line, heartbeat_line, gap_line, release_line, line_by, line_of}
 use Rattle.fields.proofs.Fields.{some_field}
 use Rattle.call_line.proofs.Told.{neither}
 
@@ -58,8 +58,8 @@ both n m k j None r p q h = refl
 both n m k j (Some f) None p q h = refl
 both n m k j (Some f) (Some a) p q h = (elim (ltb m n)
     as (λ t. ltb m n ≡ t → Some (f a) ≡ None) [
-      | true ↦ λ e. none_some f (sym (p (ltb-true m n e)))
-      | false ↦ λ e. none_some a (sym (q (omega (arith, ltb-false m n e, h))))
+      | true ↦ λ e. absurd (none-some f (sym (p (ltb-true m n e))))
+      | false ↦ λ e. absurd (none-some a (sym (q (omega (arith, ltb-false m n e, h)))))
     ]) refl
 
 infixl 40 ◌&◌
@@ -127,27 +127,27 @@ module _ (l : List ℕ) where
     start_long = sized_long 2 (good _ & long_short 1) (λ e. omega arith)
 
     counted_long : counted_line l ≡ None
-    unfolding counted_line pair_in sum field_at
-    counted_long = sized_long 4 (good _ & (good _ & guid_short 1 & guid_short 2 & byte_short 3)) (λ e. omega arith)
+    unfolding counted_line sum field_at
+    counted_long = sized_long 4 (good _ & guid_short 1 & guid_short 2 & byte_short 3) (λ e. omega arith)
 
     digest_long : digest_line l ≡ None
     unfolding digest_line sum field_at
     digest_long = sized_long 3 (good _ & guid_short 1 & word_short 2) (λ e. omega arith)
 
     sample_long : sample_line l ≡ None
-    unfolding sample_line offer_line sum field_at
+    unfolding sample_line sum field_at
     sample_long =
         sized_long 9
         (good _ & guid_short 1 & guid_short 2 & byte_short 3 & number_short 4 & number_if_short 5 & word_short 6
-        & (good _ & word_short 7) & long_short 8)
+        & word_short 7 & long_short 8)
         (λ e. omega arith)
 
     end_long : end_line l ≡ None
-    unfolding end_line offer_line sum field_at
+    unfolding end_line sum field_at
     end_long =
         sized_long 10
         (good _ & guid_short 1 & guid_short 2 & byte_short 3 & number_short 4 & number_if_short 5 & word_short 6
-        & (good _ & number_if_short 7 & number_if_short 8) & long_short 9)
+        & number_if_short 7 & number_if_short 8 & long_short 9)
         (λ e. omega arith)
 
     heartbeat_long : heartbeat_line l ≡ None

@@ -1,3 +1,2 @@
 pub mod Line
-pub mod Parsed
-pub mod Places
+pub mod Taken

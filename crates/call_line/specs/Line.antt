@@ -1,23 +1,13 @@
 -- A line of the call list and what it spells (document 01, "One call list, whole").
-use Rattle.std.specs.Prelude.{ℕ, Bool, cond, List, [], ◌∷◌, ◌++◌, eqb, ℤ, length, replicate, drop}
+use Rattle.std.specs.Prelude.{ℕ, cond, List, [], ◌∷◌, ◌++◌, eqb, ℤ, length, replicate}
 use Rattle.std.specs.Prelude.{Option, None, Some}
 use Rattle.fields.specs.Fields.{fields_of, field_at, only, byte, word, long, number}
-use Rattle.fields.specs.Cursor.{line_in, line_end}
 use Rattle.guids.specs.Guid.{Guid}
-use Rattle.rules.specs.Entry.{What, sample, set_end}
-use Rattle.rules.specs.Offer.{Offer, Heartbeat, Gap}
-use Rattle.rules.specs.Sets.{Pair}
-use Rattle.rules.specs.Commit.{DigestRow}
-
--- a fresh start with its timeout, a counted row, a digest row, a call of the history; a release has its time alone
-pub data Line : Type 0 where
-  starts : ℕ → Line
-  counts : Pair → Line
-  digests : DigestRow → Line
-  offers : Offer ℕ → Line
-  heartbeats : Heartbeat → Line
-  gaps : Gap → Line
-  releases : ℕ → Line
+use Rattle.rules.specs.Entry.{set_end}
+use Rattle.rules.specs.declared.entry.What.{What}
+use Rattle.rules.specs.declared.entry.What.TheVariants.{Sample}
+use Rattle.call_line.specs.declared.line.Line.{Line}
+use Rattle.call_line.specs.declared.line.Line.TheVariants as L
 
 -- ---- what a field spells; none where it is bad
 
@@ -51,53 +41,53 @@ word_if k l = optional (word k l) (field_at k l)
 unfoldable pub sized : {A : Type 0} → ℕ → List ℕ → Option A → Option A
 sized n l r = cond (eqb (length (fields_of l)) n) r None
 
--- group writer reader
-unfoldable pub pair_in : List ℕ → Option Pair
-pair_in l = Some (λ g w r. record { group = g; writer = w; reader = r }) ⊛ guid 1 l ⊛ guid 2 l ⊛ byte 3 l
-
--- group writer reader number set digest, what it holds, time
-unfoldable pub offer_line : ℕ → List ℕ → Option (What ℕ) → Option ℕ → Option Line
-offer_line n l what t =
-    sized n l
-    (Some (λ g w r m s d x u. offers (record { group = g; writer = w; reader = r; number = m; set = s; digest = d; what = x; time = u }))
-    ⊛ guid 1 l ⊛ guid 2 l ⊛ byte 3 l ⊛ number 4 l ⊛ number_if 5 l ⊛ word 6 l ⊛ what ⊛ t)
+-- an offer by its fields
+abbrev pub offer_of : Guid → Guid → ℕ → ℤ → Option ℤ → ℕ → What ℕ → ℕ → Line
+offer_of g w r m s d x t = L.Offer (record { group = g; writer = w; reader = r; number = m; set = s; digest = d; what = x; time = t })
 
 -- `T` timeout
 unfoldable pub start_line : List ℕ → Option Line
-start_line l = sized 2 l (Some (λ t. starts t) ⊛ long 1 l)
+start_line l = sized 2 l (Some (λ t. L.Timeout t) ⊛ long 1 l)
 
 -- `V` group writer reader
 unfoldable pub counted_line : List ℕ → Option Line
-counted_line l = sized 4 l (Some (λ p. counts p) ⊛ pair_in l)
+counted_line l =
+    sized 4 l (Some (λ g w r. L.Counted (record { group = g; writer = w; reader = r })) ⊛ guid 1 l ⊛ guid 2 l ⊛ byte 3 l)
 
 -- `D` group digest
 unfoldable pub digest_line : List ℕ → Option Line
-digest_line l = sized 3 l (Some (λ g d. digests (record { group = g; digest = d })) ⊛ guid 1 l ⊛ word 2 l)
+digest_line l = sized 3 l (Some (λ g d. L.Digest (record { group = g; digest = d })) ⊛ guid 1 l ⊛ word 2 l)
 
 -- `S` group writer reader number set digest item time
 unfoldable pub sample_line : List ℕ → Option Line
-sample_line l = offer_line 9 l (Some (λ i. sample i) ⊛ word 7 l) (long 8 l)
+sample_line l =
+    sized 9 l
+    (Some (λ g w r m s d i t. offer_of g w r m s d (Sample i) t)
+    ⊛ guid 1 l ⊛ guid 2 l ⊛ byte 3 l ⊛ number 4 l ⊛ number_if 5 l ⊛ word 6 l ⊛ word 7 l ⊛ long 8 l)
 
 -- `E` group writer reader number set digest first own time
 unfoldable pub end_line : List ℕ → Option Line
-end_line l = offer_line 10 l (Some (λ f o. set_end f o) ⊛ number_if 7 l ⊛ number_if 8 l) (long 9 l)
+end_line l =
+    sized 10 l
+    (Some (λ g w r m s d f o t. offer_of g w r m s d (set_end f o) t)
+    ⊛ guid 1 l ⊛ guid 2 l ⊛ byte 3 l ⊛ number 4 l ⊛ number_if 5 l ⊛ word 6 l ⊛ number_if 7 l ⊛ number_if 8 l ⊛ long 9 l)
 
 -- `H` group writer first last current digest secure
 unfoldable pub heartbeat_line : List ℕ → Option Line
 heartbeat_line l =
     sized 8 l
-    (Some (λ g w f m c d s. heartbeats (record { group = g; writer = w; first = f; last = m; current = c; digest = d; secure = s }))
+    (Some (λ g w f m c d s. L.Heartbeat (record { group = g; writer = w; first = f; last = m; current = c; digest = d; secure = s }))
     ⊛ guid 1 l ⊛ guid 2 l ⊛ number 3 l ⊛ number 4 l ⊛ number 5 l ⊛ word_if 6 l ⊛ word_if 7 l)
 
 -- `G` group writer reader number
 unfoldable pub gap_line : List ℕ → Option Line
 gap_line l =
     sized 5 l
-    (Some (λ g w r n. gaps (record { group = g; writer = w; reader = r; number = n })) ⊛ guid 1 l ⊛ guid 2 l ⊛ byte 3 l ⊛ number 4 l)
+    (Some (λ g w r n. L.Gap (record { group = g; writer = w; reader = r; number = n })) ⊛ guid 1 l ⊛ guid 2 l ⊛ byte 3 l ⊛ number 4 l)
 
 -- `R` time
 unfoldable pub release_line : List ℕ → Option Line
-release_line l = sized 2 l (Some (λ t. releases t) ⊛ long 1 l)
+release_line l = sized 2 l (Some (λ t. L.Release t) ⊛ long 1 l)
 
 -- by the letter in ASCII
 unfoldable pub line_by : ℕ → List ℕ → Option Line
@@ -114,9 +104,3 @@ line_by c l =
 -- none: `bad`
 unfoldable pub line_of : List ℕ → Option Line
 line_of l = line_by (only (field_at 0 l)) l
-
--- ---- in a text
-
--- what `read` makes of the line from `at` on, and where that line ends; `nl`: at a newline
-unfoldable pub line_from : (List ℕ → Option Line) → Bool → ℕ → List ℕ → Option Line × ℕ
-line_from read nl at s = (read (line_in nl (drop at s)), line_end nl at s)

@@ -1,78 +1,41 @@
-// The fields of a line that may be absent, `-`.
-ghost use Rattle.std.specs.Prelude.{◌-◌, ◌^◌, ◌≡◌, pos};
-ghost use Rattle.std.specs.Prelude.{Some};
+// The fields of a call list's lines beside numbers: GUIDs, and numbers that may be absent.
+ghost use Rattle.std.specs.Prelude.{◌≡◌, ◌-◌, ◌^◌};
 ghost use Rattle.decimal.specs.Read.{read_signed};
-ghost use Rattle.fields.specs.Fields.{told_or, up_to};
-ghost use Rattle.fields.specs.Cursor.{field_after, found_or};
-ghost use Rattle.call_line.specs.Line.{optional, number_if};
+ghost use Rattle.fields.specs.Fields.{up_to};
+ghost use Rattle.fields.specs.Left.{left, first_as, Passes};
+ghost use Rattle.call_line.specs.Line.{optional};
+ghost use Rattle.call_line.specs.Taken.{guid_as};
 
-use fields::cursor::{dash_after, number_after, word_after};
-use fields::{number_at, only_byte};
+use fields::line::Fields;
 
-#[derive(Clone, Copy)]
-pub struct NumberIf {
-    pub ok: bool,
-    pub value: Option<i64>,
-}
-
-#[derive(Clone, Copy)]
-pub(crate) struct NumberIfAfter {
-    pub value: Option<i64>,
-    pub end: usize,
-}
-
-#[derive(Clone, Copy)]
-pub(crate) struct WordIfAfter {
-    pub value: Option<u32>,
-    pub end: usize,
-}
-
-// Where the field is bad, its value is 0.
-pub fn number_if(line: &[u8], k: usize) -> NumberIf
-    ensures { (result.ok, result.value) ≡ told_or (Some (pos 0)) (number_if k line.now) }
+// GUID k is fifteen zero bytes and k.
+pub fn guid(fields: &mut Fields<'_>) -> Option<[u8; 16]>
+    ensures guid { result ≡ first_as (λ f. guid_as f) (left fields.old) }
+    ensures next { Passes fields.old fields.new }
 {
-    if only_byte(line, k) == b'-' {
-        return NumberIf {
-            ok: true,
-            value: None,
-        };
-    }
-    let read = number_at(line, k);
-    NumberIf {
-        ok: read.ok,
-        value: Some(read.value),
-    }
+    let k = fields.byte()?;
+    Some([0, 0, 0, 0, 0, 0, 0, 0, 0, 0, 0, 0, 0, 0, 0, k])
 }
 
-// What stands behind the space at `at`; where that is bad, its end is past every text.
-pub(crate) fn number_if_after(s: &[u8], at: usize, newlines: bool) -> NumberIfAfter
-    ensures { (result.value, result.end) ≡ found_or (Some (pos 0)) (field_after (λ f. optional (read_signed f) f) newlines at s.now) }
+// A number, or `-`, absent.
+pub fn number_if(fields: &mut Fields<'_>) -> Option<Option<i64>>
+    ensures number { result ≡ first_as (λ f. optional (read_signed f) f) (left fields.old) }
+    ensures next { Passes fields.old fields.new }
 {
-    if dash_after(s, at, newlines) {
-        return NumberIfAfter {
-            value: None, // `-`
-            end: at + 2,
-        };
+    if fields.dash() {
+        return Some(None); // no number
     }
-    let read = number_after(s, at, newlines);
-    NumberIfAfter {
-        value: Some(read.value),
-        end: read.end,
-    }
+    let number = fields.number()?;
+    Some(Some(number))
 }
 
-pub(crate) fn word_if_after(s: &[u8], at: usize, newlines: bool) -> WordIfAfter
-    ensures { (result.value, result.end) ≡ found_or (Some 0) (field_after (λ f. optional (up_to (2 ^ 32 - 1) f) f) newlines at s.now) }
+pub fn word_if(fields: &mut Fields<'_>) -> Option<Option<u32>>
+    ensures number { result ≡ first_as (λ f. optional (up_to (2 ^ 32 - 1) f) f) (left fields.old) }
+    ensures next { Passes fields.old fields.new }
 {
-    if dash_after(s, at, newlines) {
-        return WordIfAfter {
-            value: None, // no digest
-            end: at + 2,
-        };
+    if fields.dash() {
+        return Some(None); // no digest
     }
-    let read = word_after(s, at, newlines);
-    WordIfAfter {
-        value: Some(read.value),
-        end: read.end,
-    }
+    let word = fields.word()?;
+    Some(Some(word))
 }

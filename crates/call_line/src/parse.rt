@@ -1,286 +1,212 @@
 // A line of the call list, read in one pass.
-ghost use Rattle.std.specs.Prelude.{◌+◌, ◌≡◌};
-ghost use Rattle.std.specs.Prelude.{None};
-ghost use Rattle.call_line.specs.Line.{start_line, counted_line, digest_line, sample_line, end_line, heartbeat_line, gap_line, release_line, line_of, line_from};
-ghost use Rattle.call_line.specs.Parsed.{parsed_as};
-ghost use Rattle.call_line.specs.Places.{Offering, At};
+#![tactic(auto, unfolding(crate::specs::Taken::taking, crate::specs::Taken::ending))]
 
-use crate::field::{number_if_after, word_if_after};
-use crate::line::{LineDigest, LineGap, LineHeartbeat, LineOffer, LinePair};
-use fields::cursor::{
-    byte_after, is_last, letter_at, line_end, long_after, number_after, word_after,
-};
-use store::entry::{SetEnd, What};
+ghost use Rattle.std.specs.Prelude.{◌≡◌, ℕ, List, Option, true, length, drop, option_map, option_and_then};
+ghost use Rattle.fields.specs.Fields.{fields_of};
+ghost use Rattle.fields.specs.Cursor.{line_in};
+ghost use Rattle.fields.specs.Left.{left, behind, behind_newline};
+ghost use Rattle.call_line.specs.Line.{line_of};
+ghost use Rattle.call_line.specs.Taken.{offer_by, take_head, take_timeout, take_counted, take_digest, take_sample, take_end, take_heartbeat, take_gap, take_release};
+ghost use Rattle.call_line.specs.declared.line.Line.{Line};
+ghost use Rattle.call_line.specs.declared.parse.OfferHead.{OfferHead};
 
-#[derive(Clone, Copy)]
-pub enum Parsed {
-    Timeout(u64),
-    Counted(LinePair),
-    Digest(LineDigest),
-    Offer(LineOffer),
-    Heartbeat(LineHeartbeat),
-    Gap(LineGap),
-    Release(u64),
-    Bad,
+use crate::field::{guid, number_if, word_if};
+use crate::line::Line;
+use fields::line::Fields;
+use rules::call::{Gap, Heartbeat, Offer};
+use rules::entry::{SetEnd, What};
+use rules::view::{DigestRow, Pair};
+
+// The line that is all of `line`; none: it is bad.
+pub fn parse(line: &[u8]) -> Option<Line>
+    ensures { result ≡ line_of line.now }
+{
+    take_line(&mut Fields::of_line(line))
 }
 
-// What a line spells, and where it ends.
-#[derive(Clone, Copy)]
-pub struct LineAt {
-    pub parsed: Parsed,
-    pub end: usize,
+// The first line of a text, and what stands behind its newline; none where the text ends with the line.
+pub fn parse_first(text: &[u8]) -> (Option<Line>, Option<&[u8]>)
+    ensures line { result.0 ≡ line_of (line_in true text.now) }
+    ensures behind { option_map (λ s. s.now) result.1 ≡ behind_newline (drop (length (line_in true text.now)) text.now) }
+{
+    let mut fields = Fields::of_text(text);
+    let line = take_line(&mut fields);
+    (line, fields.next_line())
+}
+
+fn take_line(fields: &mut Fields<'_>) -> Option<Line>
+    ensures line { (l : List ℕ) → left fields.old ≡ fields_of l → result ≡ line_of l }
+    ensures behind { behind fields.new ≡ behind fields.old }
+{
+    match fields.letter()? {
+        b'T' => timeout(fields),
+        b'V' => counted(fields),
+        b'D' => digest(fields),
+        b'S' => sample(fields),
+        b'E' => end(fields),
+        b'H' => heartbeat(fields),
+        b'G' => gap(fields),
+        b'R' => release(fields),
+        _ => None,
+    }
+}
+
+fn timeout(fields: &mut Fields<'_>) -> Option<Line>
+    ensures line { result ≡ take_timeout (left fields.old) }
+    ensures behind { behind fields.new ≡ behind fields.old }
+{
+    let timeout = fields.unsigned()?;
+    fields.end()?;
+    Some(Line::Timeout(timeout))
+}
+
+fn release(fields: &mut Fields<'_>) -> Option<Line>
+    ensures line { result ≡ take_release (left fields.old) }
+    ensures behind { behind fields.new ≡ behind fields.old }
+{
+    let time = fields.unsigned()?;
+    fields.end()?;
+    Some(Line::Release(time))
+}
+
+fn counted(fields: &mut Fields<'_>) -> Option<Line>
+    ensures line { result ≡ take_counted (left fields.old) }
+    ensures behind { behind fields.new ≡ behind fields.old }
+{
+    let group = guid(fields)?;
+    let writer = guid(fields)?;
+    let reader = fields.byte()?; // of the row
+    fields.end()?;
+    Some(Line::Counted(Pair {
+        group,
+        writer, // whose samples count
+        reader, // that counts them
+    }))
+}
+
+fn digest(fields: &mut Fields<'_>) -> Option<Line>
+    ensures line { result ≡ take_digest (left fields.old) }
+    ensures behind { behind fields.new ≡ behind fields.old }
+{
+    let group = guid(fields)?;
+    let digest = fields.word()?; // that is accepted
+    fields.end()?;
+    Some(Line::Digest(DigestRow { group, digest }))
 }
 
 // The fields of an offer that `S` and `E` lines share.
 #[derive(Clone, Copy)]
-struct OfferAt {
-    group: u8,
-    writer: u8,
+struct OfferHead {
+    group: [u8; 16],
+    writer: [u8; 16],
     reader: u8,
     number: i64,
     set: Option<i64>,
     digest: u32,
-    end: usize,
 }
 
-// The line that is all of `line`.
-pub fn parse(line: &[u8]) -> Parsed
-    ensures { parsed_as result ≡ line_of line.now }
+fn head(fields: &mut Fields<'_>) -> Option<OfferHead>
+    ensures head { (go : OfferHead → List (List ℕ) → Option Line) → take_head go (left fields.old) ≡ option_and_then (λ h. go h (left fields.new)) result }
+    ensures behind { behind fields.new ≡ behind fields.old }
 {
-    let whole = parse_at(line, 0, false);
-    let parsed = whole.parsed;
-    parsed
+    let group = guid(fields)?;
+    let writer = guid(fields)?;
+    let reader = fields.byte()?;
+    let number = fields.number()?;
+    let set = number_if(fields)?;
+    let digest = fields.word()?;
+    Some(OfferHead {
+        group,
+        writer,
+        reader,
+        number,
+        set,
+        digest,
+    })
 }
 
-// The line of a text that begins at `at`: up to a newline, or, without `newlines`, all that is left.
-pub fn parse_at(text: &[u8], at: usize, newlines: bool) -> LineAt
-    ensures { (parsed_as result.parsed, result.end) ≡ line_from (λ l. line_of l) newlines at text.now }
+fn sample(fields: &mut Fields<'_>) -> Option<Line>
+    ensures line { result ≡ take_sample (left fields.old) }
+    ensures behind { behind fields.new ≡ behind fields.old }
 {
-    let letter = letter_at(text, at);
-    match letter {
-        b'T' => start_line(text, at, newlines),
-        b'V' => counted_line(text, at, newlines),
-        b'D' => digest_line(text, at, newlines),
-        b'S' => sample_line(text, at, newlines),
-        b'E' => end_line(text, at, newlines),
-        b'H' => heartbeat_line(text, at, newlines),
-        b'G' => gap_line(text, at, newlines),
-        b'R' => release_line(text, at, newlines),
-        _ => bad_line(text, at, newlines),
-    }
+    let head = head(fields)?;
+    let item = fields.word()?;
+    let time = fields.unsigned()?;
+    fields.end()?;
+    Some(offer(head, What::Sample(item), time))
 }
 
-fn bad_line(text: &[u8], at: usize, newlines: bool) -> LineAt
-    ensures { (parsed_as result.parsed, result.end) ≡ line_from (λ l. None) newlines at text.now }
+fn end(fields: &mut Fields<'_>) -> Option<Line>
+    ensures line { result ≡ take_end (left fields.old) }
+    ensures behind { behind fields.new ≡ behind fields.old }
 {
-    let end = line_end(text, at, newlines);
-    LineAt {
-        parsed: Parsed::Bad,
-        end,
-    }
+    let head = head(fields)?;
+    let first = number_if(fields)?;
+    let own = number_if(fields)?;
+    let time = fields.unsigned()?;
+    fields.end()?;
+    Some(offer(head, What::End(SetEnd { first, own }), time))
 }
 
-fn start_line(text: &[u8], at: usize, newlines: bool) -> LineAt
-    requires { At newlines text.now at 1 (at + 1) }
-    ensures { (parsed_as result.parsed, result.end) ≡ line_from (λ l. start_line l) newlines at text.now }
+fn offer(head: OfferHead, what: What<u32>, time: u64) -> Line
+    ensures { result ≡ offer_by head what time }
 {
-    let time = long_after(text, at + 1, newlines);
-    if is_last(text, time.end) {
-        return LineAt {
-            parsed: Parsed::Timeout(time.value),
-            end: time.end,
-        };
-    }
-    bad_line(text, at, newlines)
+    let OfferHead {
+        group,
+        writer,
+        reader,
+        number,
+        set,
+        digest,
+    } = head;
+    Line::Offer(Offer {
+        group,
+        writer, // that sent it
+        reader, // that received it
+        number,
+        set,
+        digest,
+        what,
+        time,
+    })
 }
 
-fn release_line(text: &[u8], at: usize, newlines: bool) -> LineAt
-    requires { At newlines text.now at 1 (at + 1) }
-    ensures { (parsed_as result.parsed, result.end) ≡ line_from (λ l. release_line l) newlines at text.now }
+fn heartbeat(fields: &mut Fields<'_>) -> Option<Line>
+    ensures line { result ≡ take_heartbeat (left fields.old) }
+    ensures behind { behind fields.new ≡ behind fields.old }
 {
-    let time = long_after(text, at + 1, newlines);
-    if is_last(text, time.end) {
-        return LineAt {
-            parsed: Parsed::Release(time.value),
-            end: time.end,
-        };
-    }
-    bad_line(text, at, newlines)
+    let group = guid(fields)?;
+    let writer = guid(fields)?;
+    let first = fields.number()?;
+    let last = fields.number()?;
+    let current = fields.number()?;
+    let digest = word_if(fields)?;
+    let secure = word_if(fields)?;
+    fields.end()?;
+    Some(Line::Heartbeat(Heartbeat {
+        group,
+        writer,
+        first, // of the range
+        last,
+        current,
+        digest,
+        secure, // of the group
+    }))
 }
 
-fn counted_line(text: &[u8], at: usize, newlines: bool) -> LineAt
-    requires { At newlines text.now at 1 (at + 1) }
-    ensures { (parsed_as result.parsed, result.end) ≡ line_from (λ l. counted_line l) newlines at text.now }
+fn gap(fields: &mut Fields<'_>) -> Option<Line>
+    ensures line { result ≡ take_gap (left fields.old) }
+    ensures behind { behind fields.new ≡ behind fields.old }
 {
-    let group = byte_after(text, at + 1, newlines);
-    let writer = byte_after(text, group.end, newlines);
-    let reader = byte_after(text, writer.end, newlines);
-    if is_last(text, reader.end) {
-        let row = LinePair {
-            group: group.value,
-            writer: writer.value,
-            reader: reader.value,
-        };
-        return LineAt {
-            parsed: Parsed::Counted(row),
-            end: reader.end,
-        };
-    }
-    bad_line(text, at, newlines)
-}
-
-fn digest_line(text: &[u8], at: usize, newlines: bool) -> LineAt
-    requires { At newlines text.now at 1 (at + 1) }
-    ensures { (parsed_as result.parsed, result.end) ≡ line_from (λ l. digest_line l) newlines at text.now }
-{
-    let group = byte_after(text, at + 1, newlines);
-    let digest = word_after(text, group.end, newlines);
-    if is_last(text, digest.end) {
-        let row = LineDigest {
-            group: group.value,
-            digest: digest.value,
-        };
-        return LineAt {
-            parsed: Parsed::Digest(row),
-            end: digest.end,
-        };
-    }
-    bad_line(text, at, newlines)
-}
-
-// group writer reader number set digest
-fn offer_at(text: &[u8], at: usize, newlines: bool) -> OfferAt
-    requires { At newlines text.now at 1 (at + 1) }
-    ensures { Offering newlines text.now at result }
-{
-    let group = byte_after(text, at + 1, newlines);
-    let writer = byte_after(text, group.end, newlines);
-    let reader = byte_after(text, writer.end, newlines);
-    let number = number_after(text, reader.end, newlines);
-    let set = number_if_after(text, number.end, newlines);
-    let digest = word_after(text, set.end, newlines);
-    let mark = set.value;
-    OfferAt {
-        group: group.value,
-        writer: writer.value,
-        reader: reader.value,
-        number: number.value,
-        set: mark,
-        digest: digest.value,
-        end: digest.end,
-    }
-}
-
-fn sample_line(text: &[u8], at: usize, newlines: bool) -> LineAt
-    requires { At newlines text.now at 1 (at + 1) }
-    ensures { (parsed_as result.parsed, result.end) ≡ line_from (λ l. sample_line l) newlines at text.now }
-{
-    let offer = offer_at(text, at, newlines);
-    let item = word_after(text, offer.end, newlines);
-    let time = long_after(text, item.end, newlines);
-    if is_last(text, time.end) {
-        let what = What::Sample(item.value);
-        let set = offer.set;
-        let line = LineOffer {
-            group: offer.group,
-            writer: offer.writer,
-            reader: offer.reader,
-            number: offer.number,
-            set,
-            digest: offer.digest,
-            what,
-            time: time.value,
-        };
-        return LineAt {
-            parsed: Parsed::Offer(line),
-            end: time.end,
-        };
-    }
-    bad_line(text, at, newlines)
-}
-
-fn end_line(text: &[u8], at: usize, newlines: bool) -> LineAt
-    requires { At newlines text.now at 1 (at + 1) }
-    ensures { (parsed_as result.parsed, result.end) ≡ line_from (λ l. end_line l) newlines at text.now }
-{
-    let offer = offer_at(text, at, newlines);
-    let first = number_if_after(text, offer.end, newlines);
-    let own = number_if_after(text, first.end, newlines);
-    let time = long_after(text, own.end, newlines);
-    if is_last(text, time.end) {
-        let from = first.value;
-        let own = own.value;
-        let end = SetEnd { first: from, own };
-        let what = What::End(end);
-        let set = offer.set;
-        let line = LineOffer {
-            group: offer.group,
-            writer: offer.writer,
-            reader: offer.reader,
-            number: offer.number,
-            set,
-            digest: offer.digest,
-            what,
-            time: time.value,
-        };
-        return LineAt {
-            parsed: Parsed::Offer(line),
-            end: time.end,
-        };
-    }
-    bad_line(text, at, newlines)
-}
-
-fn heartbeat_line(text: &[u8], at: usize, newlines: bool) -> LineAt
-    requires { At newlines text.now at 1 (at + 1) }
-    ensures { (parsed_as result.parsed, result.end) ≡ line_from (λ l. heartbeat_line l) newlines at text.now }
-{
-    let group = byte_after(text, at + 1, newlines);
-    let writer = byte_after(text, group.end, newlines);
-    let first = number_after(text, writer.end, newlines);
-    let last = number_after(text, first.end, newlines);
-    let current = number_after(text, last.end, newlines);
-    let digest = word_if_after(text, current.end, newlines);
-    let secure = word_if_after(text, digest.end, newlines);
-    if is_last(text, secure.end) {
-        let discovered = digest.value;
-        let secured = secure.value;
-        let heartbeat = LineHeartbeat {
-            group: group.value,
-            writer: writer.value,
-            first: first.value,
-            last: last.value,
-            current: current.value,
-            digest: discovered,
-            secure: secured,
-        };
-        return LineAt {
-            parsed: Parsed::Heartbeat(heartbeat),
-            end: secure.end,
-        };
-    }
-    bad_line(text, at, newlines)
-}
-
-fn gap_line(text: &[u8], at: usize, newlines: bool) -> LineAt
-    requires { At newlines text.now at 1 (at + 1) }
-    ensures { (parsed_as result.parsed, result.end) ≡ line_from (λ l. gap_line l) newlines at text.now }
-{
-    let group = byte_after(text, at + 1, newlines);
-    let writer = byte_after(text, group.end, newlines);
-    let reader = byte_after(text, writer.end, newlines);
-    let number = number_after(text, reader.end, newlines);
-    if is_last(text, number.end) {
-        let gap = LineGap {
-            group: group.value,
-            writer: writer.value,
-            reader: reader.value,
-            number: number.value,
-        };
-        return LineAt {
-            parsed: Parsed::Gap(gap),
-            end: number.end,
-        };
-    }
-    bad_line(text, at, newlines)
+    let group = guid(fields)?;
+    let writer = guid(fields)?;
+    let reader = fields.byte()?;
+    let number = fields.number()?;
+    fields.end()?; // behind the number
+    Some(Line::Gap(Gap {
+        group, // whose number is left out
+        writer,
+        reader, // that heard of it
+        number,
+    }))
 }

@@ -1,5 +1,6 @@
 pub mod Saying
 pub mod Standing
+pub mod Narrowing
 pub mod Running
 pub mod Places
 pub mod Releasing

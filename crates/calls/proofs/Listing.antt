@@ -1,170 +1,104 @@
--- Laws of a call list run: what a line prints, and the lines of a text.
-use Prim.Native.Nat.{ℕ, suc, ◌+◌, ◌-◌, ◌≤◌, ◌<◌, min}
-use mathlib.Core.Path.{◌≡◌, refl, sym, ap, ◌∙◌, subst}
+-- Laws of a call list run: the lines of a text, and what is left of it.
+use Prim.Native.Nat.{ℕ, ◌≤◌, ◌<◌}
+use mathlib.Core.Path.{◌≡◌, refl, sym, ap, ◌∙◌}
 use mathlib.Core.Bool.{true, false, cond}
 use mathlib.Core.List.{List, [], ◌∷◌, ◌++◌, append_assoc}
-use Rattle.std.specs.Prelude.{Option}
+use Rattle.std.specs.Prelude.{Option, None, Some}
+use Rattle.std.proofs.lemmas.Option.{none-some}
 use native.Mathlib.Omega.{arith}
 use lib.Dec.{eqb}
-use lib.ListN.{length, take, drop, length-append, length-drop, drop_of_length-le}
-use lib.Seq.{take_all, take-append_seam, drop-drop, length-take-le}
-use Rattle.decimal.specs.Split.{stop_or, before, field_end}
-use Rattle.decimal.proofs.Splitting.{before_le, end_within}
+use lib.ListN.{length, take, drop, length-append, length-drop}
+use lib.Seq.{take_all}
 use Rattle.decimal.specs.Print.{put}
-use Rattle.decimal.proofs.Putting.{put_none, put_next, put_front}
-use Rattle.rules.specs.State.{fresh}
-use Rattle.group_view.specs.View.{Cleared}
-use Rattle.store.specs.Store.{state_of}
+use Rattle.decimal.proofs.Putting.{put_none, put_next}
 use Rattle.fields.specs.Fields.{lengthen}
-use Rattle.fields.specs.Cursor.{line_in, line_end}
-use Rattle.fields.proofs.OnePass.{line_first, line_ends}
-use Rattle.call_line.specs.Line.{Line, line_of}
-use Rattle.calls.specs.Run.{Calls, begun, run_if, run_line, lines_of, run_lines, run_text}
-use Rattle.calls.specs.Runs.{Stands, Ran, RanOn, ran_text}
-use Rattle.calls.proofs.Standing.{every_stands, begun_stands}
-
--- ---- what a line prints
-
-module _ {l : Option Line} {r : ℕ} {store view out store' view' out' : List ℕ} (x : Ran l r store view out store' view' out') where
-  told_by : (c : Calls) → Stands c store view → (r ≤ length out') × (take r out' ≡ (run_if c l).1)
-  told_by c s =
-      let t = (run_if c l).1 in
-      let p : ◌≡◌ {A = ℕ × List ℕ} (r, out') (length t, t ++ drop (length t) out) = x.text c s ∙ put_front out t (x.fits c s) in
-      let e : r ≡ length t = ap (λ w. w.0) p in
-      let o : out' ≡ t ++ drop (length t) out = ap (λ w. w.1) p in
-      let n = ap length o in
-      (omega (arith, e, length-append t (drop (length t) out)), rw (e, o) (take-append_seam t (drop (length t) out)))
-
-  ran_told : (c : Calls) → Stands c store view → take r out' ≡ (run_if c l).1
-  ran_told c s = (told_by c s).1
-
-  pub ran_long : r ≤ length out'
-  ran_long = let p = every_stands store view in (told_by p.0 p.1).0
-
-pub ran_on : {line : List ℕ} {at n next r : ℕ} {store view said out store' view' said' mid out' : List ℕ}
-    → Ran (line_of line) n store view said store' view' said'
-    → (next, mid) ≡ put out at (take n said')
-    → (r, out') ≡ put mid next (10 ∷ [])
-    → RanOn line at r store view out store' view' out'
-unfolding run_line
-ran_on {line} {at} {n} {next} {r} {store} {view} {said} {out} {store'} {view'} {said'} {mid} {out'} x p q = record {
-  state = x.state;
-  text =
-      λ c s.
-      let t = (run_if c (line_of line)).1 in
-      let m : (next, mid) ≡ put out at t = p ∙ ap (λ (u : List ℕ). put out at u) (ran_told x c s) in
-      q ∙ ap (λ (w : ℕ × List ℕ). put w.1 w.0 (10 ∷ [])) m ∙ put_next out at t (10 ∷ []);
-}
+use Rattle.fields.specs.Cursor.{ends, line_in}
+use Rattle.fields.specs.Left.{behind_newline}
+use Rattle.call_line.specs.Line.{line_of}
+use Rattle.call_line.specs.declared.line.Line.{Line}
+use Rattle.calls.specs.Run.{Calls, begun, afresh, run_if, run_line, lines_of, run_lines, run_text}
+use Rattle.calls.specs.Runs.{Stands, Ran, ran_text}
+use Rattle.calls.proofs.Standing.{every_stands}
 
 -- ---- the lines of a text
 
-lines_split : (s : List ℕ) → before 10 s < length s → lines_of s ≡ take (before 10 s) s ∷ lines_of (drop (suc (before 10 s)) s)
-unfolding before stop_or lines_of lengthen
-lines_split [] h = absurd (omega arith)
-lines_split (b ∷ s) h = (elim (eqb b 10)
-    as (λ t. stop_or t (before 10 s) < suc (length s)
-    → cond t ([] ∷ lines_of s) (lengthen b (lines_of s))
-    ≡ take (stop_or t (before 10 s)) (b ∷ s) ∷ lines_of (drop (suc (stop_or t (before 10 s))) (b ∷ s)))
-    [ true ↦ λ _. refl | false ↦ λ g. ap (λ ls. lengthen b ls) (lines_split s (omega arith)) ]) h
+abbrev pub lines_or : Option (List ℕ) → List (List ℕ)
+lines_or None = []
+lines_or (Some s) = lines_of s
 
-lines_last : (s : List ℕ) → 0 < length s → length s ≤ before 10 s → lines_of s ≡ s ∷ []
-unfolding before stop_or lines_of lengthen
-lines_last [] z h = absurd (omega arith)
-lines_last (b ∷ []) z h = (elim (eqb b 10)
-    as (λ t. 1 ≤ stop_or t 0 → cond t ([] ∷ []) (lengthen b []) ≡ (b ∷ []) ∷ [])
-    [ true ↦ λ g. absurd (omega arith) | false ↦ λ g. refl ]) h
-lines_last (b ∷ a ∷ s) z h = (elim (eqb b 10)
-    as (λ t. suc (length (a ∷ s)) ≤ stop_or t (before 10 (a ∷ s)) → cond t ([] ∷ lines_of (a ∷ s)) (lengthen b (lines_of (a ∷ s))) ≡ (b ∷ a ∷ s) ∷ [])
-    [ true ↦ λ g. absurd (omega arith) | false ↦ λ g. ap (λ ls. lengthen b ls) (lines_last (a ∷ s) (omega arith) (omega arith)) ]) h
+-- the first, and those behind its newline
+first_line : (b : ℕ) (s : List ℕ)
+    → lines_of (b ∷ s) ≡ line_in true (b ∷ s) ∷ lines_or (behind_newline (drop (length (line_in true (b ∷ s))) (b ∷ s)))
+unfolding lines_of lengthen line_in ends behind_newline
+first_line b [] = elim (eqb b 10)
+    as (λ t. cond t ([] ∷ []) (lengthen b []) ≡ cond t [] (b ∷ []) ∷ lines_or (behind_newline (drop (length (cond t [] (b ∷ []))) (b ∷ [])))) [ true ↦ refl | false ↦ refl ]
+first_line b (a ∷ s) = elim (eqb b 10)
+    as (λ t. cond t ([] ∷ lines_of (a ∷ s)) (lengthen b (lines_of (a ∷ s)))
+    ≡ cond t [] (b ∷ line_in true (a ∷ s)) ∷ lines_or (behind_newline (drop (length (cond t [] (b ∷ line_in true (a ∷ s)))) (b ∷ a ∷ s))))
+    [ true ↦ refl | false ↦ ap (λ ls. lengthen b ls) (first_line a s) ]
 
--- ---- the lines that are left from i on, where the first ends at e
+pub lines_split : (s : List ℕ) (r : Option (List ℕ)) → 0 < length s → r ≡ behind_newline (drop (length (line_in true s)) s) → lines_of s ≡ line_in true s ∷ lines_or r
+lines_split [] r h e = absurd (omega arith)
+lines_split (b ∷ s) r h e = first_line b s ∙ ap (λ o. line_in true (b ∷ s) ∷ lines_or o) (sym e)
 
-pub end_in : (s : List ℕ) (i : ℕ) → (min i (length s) ≤ field_end 10 s i) × (field_end 10 s i ≤ length s)
-unfolding field_end
-end_in s i = (omega arith, omega (arith, before_le 10 (drop i s), length-drop i s))
+behind_short : (s : List ℕ) (r : List ℕ) → Some r ≡ behind_newline s → length r < length s
+unfolding behind_newline
+behind_short [] r e = absurd (none-some r (sym e))
+behind_short (b ∷ s) r e = let q : r ≡ s = cc in omega (arith, ap length q)
 
-module _ (s : List ℕ) (i e : ℕ) (h : i < length s) (p : e ≡ field_end 10 s i) where
-  end_at : e ≡ i + before 10 (drop i s)
-  end_at = p ∙ end_within 10 s i (omega arith)
-
-  line_split : e < length s → lines_of (drop i s) ≡ take (e - i) (drop i s) ∷ lines_of (drop (e + 1) s)
-  line_split l =
-      let n = before 10 (drop i s) in
-      let q : i + suc n ≡ e + 1 = omega (arith, end_at) in
-      let r : n ≡ e - i = omega (arith, end_at) in
-      lines_split (drop i s) (omega (arith, end_at, length-drop i s))
-      ∙ ap (λ (k : ℕ). take k (drop i s) ∷ lines_of (drop (suc n) (drop i s))) r
-      ∙ ap (λ (t : List ℕ). take (e - i) (drop i s) ∷ lines_of t) (drop-drop (suc n) i s ∙ ap (λ (k : ℕ). drop k s) q)
-
-  line_last : e ≡ length s → lines_of (drop i s) ≡ take (e - i) (drop i s) ∷ []
-  line_last l =
-      let n = length-drop i s in
-      lines_last (drop i s) (omega arith) (omega (arith, end_at))
-      ∙ ap (λ (t : List ℕ). t ∷ []) (sym (take_all (e - i) (drop i s) (omega arith)))
+pub rest_shorter : (s r : List ℕ) (n : ℕ) → Some r ≡ behind_newline (drop n s) → length r < length s
+rest_shorter s r n e = omega (arith, behind_short (drop n s) r e, length-drop n s)
 
 -- ---- the turns of the list: what is left, put now, makes all
 
-pub record Left (text all : List ℕ) (store view out : List ℕ) (at i : ℕ) : Type 0 where
+pub record Left (text all : List ℕ) (d : Calls) (out : List ℕ) (at : ℕ) (rest : List ℕ) : Type 0 where
   pub calls : Calls
-  pub stands : Stands calls store view
-  pub rest : put out at (run_lines calls (lines_of (drop i text))) ≡ ran_text text all
+  pub stands : Stands calls d
+  pub makes : put out at (run_lines calls (lines_of rest)) ≡ ran_text text all
 
-pub left_first : {text out store view : List ℕ} → state_of store ≡ fresh 1000000000 → Cleared view → Left text out store view out 0 0
-unfolding ran_text run_text
-left_first {text} {out} {store} {view} e v = record { calls = begun; stands = begun_stands e v; rest = refl }
+pub left_first : {text out : List ℕ} {d : Calls} → d ≡ afresh 1000000000 → Left text out d out 0 text
+unfolding ran_text run_text begun
+left_first {text} {out} {d} e = record { calls = d; stands = every_stands d; makes = ap (λ c. put out 0 (run_lines c (lines_of text))) e }
 
-pub left_none : {text all store view out : List ℕ} {at i : ℕ} → length text ≤ i → Left text all store view out at i → (at, out) ≡ ran_text text all
+pub left_none : {text all out rest : List ℕ} {d : Calls} {at : ℕ} → length rest ≤ 0 → Left text all d out at rest → (at, out) ≡ ran_text text all
 unfolding lines_of run_lines
-left_none {text} {all} {store} {view} {out} {at} {i} h l =
-    put_none out at
-    ∙ ap (λ (s : List ℕ). put out at (run_lines l.calls (lines_of s))) (sym (drop_of_length-le text h))
-    ∙ l.rest
+left_none {out = out} {rest = []} {at = at} h l = put_none out at ∙ l.makes
+left_none {rest = b ∷ s} h l = absurd (omega arith)
 
-module _ {text all store view out : List ℕ} {at i : ℕ} (l : Left text all store view out at i) (h : i < length text)
-    {e r : ℕ} {store' view' out' : List ℕ} (p : e ≡ field_end 10 text i)
-    (x : RanOn (take (e - i) (drop i text)) at r store view out store' view' out')
+-- a line's answer and its newline fit
+whole_answer : (n : ℕ) {l : Option Line} {d d' : Calls} {none said answer : List ℕ} (c : Calls) → 3930 ≤ n → Stands c d → none ≡ [] → Ran n l d d' none said
+    → answer ≡ take n (said ++ (10 ∷ [])) → answer ≡ (run_if c l).1 ++ (10 ∷ [])
+whole_answer n {l} {said = said} c h s z x e =
+    let t = (run_if c l).1 in
+    let p : said ≡ t = x.text c s ∙ ap (λ o. take n (o ++ t)) z ∙ take_all n t (omega (arith, x.short c s, h)) in
+    e ∙ ap (λ (u : List ℕ). take n (u ++ (10 ∷ []))) p ∙ take_all n (t ++ (10 ∷ [])) (omega (arith, x.short c s, h, length-append t (10 ∷ [])))
+
+module _ {text all out rest : List ℕ} {d : Calls} {at : ℕ} (l : Left text all d out at rest) (h : 0 < length rest)
+    {n r : ℕ} {d' : Calls} {none said answer out' : List ℕ} {line : Option Line} (m : 3930 ≤ n) (i : none ≡ []) (q : line ≡ line_of (line_in true rest))
+    (x : Ran n line d d' none said) (e : answer ≡ take n (said ++ (10 ∷ []))) (p : ◌≡◌ {A = ℕ × List ℕ} (r, out') (put out at answer)) (b : Option (List ℕ))
+    (k : b ≡ behind_newline (drop (length (line_in true rest)) rest))
   where
-    run_split : (ls : List (List ℕ)) → lines_of (drop i text) ≡ take (e - i) (drop i text) ∷ ls
-        → put out' r (run_lines (run_line l.calls (take (e - i) (drop i text))).0 ls) ≡ ran_text text all
-    unfolding run_lines
-    run_split ls q =
+    run_first : put out' r (run_lines (run_if l.calls line).0 (lines_or b)) ≡ ran_text text all
+    unfolding run_lines run_line
+    run_first =
         let c = l.calls in
-        let a = run_line c (take (e - i) (drop i text)) in
-        let t = run_lines a.0 ls in
-        ap (λ (w : ℕ × List ℕ). put w.1 w.0 t) (x.text c l.stands)
+        let a = run_if c line in
+        let t = run_lines a.0 (lines_or b) in
+        let y : answer ≡ a.1 ++ (10 ∷ []) = whole_answer n c m l.stands i x e in
+        ap (λ (w : ℕ × List ℕ). put w.1 w.0 t) (p ∙ ap (λ (u : List ℕ). put out at u) y)
         ∙ put_next out at (a.1 ++ (10 ∷ [])) t
         ∙ ap (λ (u : List ℕ). put out at u) (append_assoc a.1 (10 ∷ []) t)
-        ∙ ap (λ (u : List (List ℕ)). put out at (run_lines c u)) (sym q)
-        ∙ l.rest
+        ∙ ap (λ o. put out at ((run_if c o).1 ++ (10 ∷ run_lines (run_if c o).0 (lines_or b)))) q
+        ∙ ap (λ (u : List (List ℕ)). put out at (run_lines c u)) (sym (lines_split rest b h k))
+        ∙ l.makes
 
-    pub left_next : e < length text → Left text all store' view' out' r (e + 1)
-    left_next g = record {
-      calls = (run_line l.calls (take (e - i) (drop i text))).0;
+    pub left_next : (s : List ℕ) → b ≡ Some s → Left text all d' out' r s
+    left_next s z = record {
+      calls = (run_if l.calls line).0;
       stands = x.state l.calls l.stands;
-      rest = run_split (lines_of (drop (e + 1) text)) (line_split text i e h p g);
+      makes = ap (λ o. put out' r (run_lines (run_if l.calls line).0 (lines_or o))) (sym z) ∙ run_first;
     }
 
-    pub left_last : e ≡ length text → (r, out') ≡ ran_text text all
+    pub left_last : b ≡ None → (r, out') ≡ ran_text text all
     unfolding run_lines
-    left_last g = put_none out' r ∙ run_split [] (line_last text i e h p g)
-
--- ---- the line at i, as its end says
-
-pub line_at : (s : List ℕ) (i e : ℕ) → i < length s → e ≡ line_end true i s → line_in true (drop i s) ≡ take (e - i) (drop i s)
-unfolding line_end
-line_at s i e h p =
-    let n = ap (λ l. length l) (line_first (drop i s)) in
-    let b : length (line_in true (drop i s)) ≡ before 10 (drop i s) = n ∙ length-take-le (before 10 (drop i s)) (drop i s) (before_le 10 (drop i s)) in
-    let q : before 10 (drop i s) ≡ e - i = omega (arith, p, b) in
-    line_first (drop i s) ∙ ap (λ k. take k (drop i s)) q
-
-pub ran_at : (s : List ℕ) (i e : ℕ) {at r : ℕ} {store view out store' view' out' : List ℕ} → i < length s → e ≡ line_end true i s
-    → RanOn (line_in true (drop i s)) at r store view out store' view' out' → RanOn (take (e - i) (drop i s)) at r store view out store' view' out'
-ran_at s i e {at} {r} {store} {view} {out} {store'} {view'} {out'} h p x =
-    subst (λ l. RanOn l at r store view out store' view' out') (line_at s i e h p) x
-
-pub end_is : (s : List ℕ) (i e : ℕ) → e ≡ line_end true i s → e ≡ field_end 10 s i
-end_is s i e p = p ∙ sym (line_ends s i)
-
-pub end_within_text : (s : List ℕ) (i e : ℕ) → i < length s → e ≡ line_end true i s → (i ≤ e) × (e ≤ length s)
-end_within_text s i e h p = let q = end_in s i in let r = end_is s i e p in (omega (arith, h, q, r), omega (arith, q, r))
+    left_last z = put_none out' r ∙ ap (λ o. put out' r (run_lines (run_if l.calls line).0 (lines_or o))) (sym z) ∙ run_first

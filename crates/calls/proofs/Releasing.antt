@@ -1,38 +1,46 @@
--- A release on the lent words is one on the rows of the lines, and what it prints has room.
+-- A release on the code's calls is one on the calls they stand for, and what it prints is short.
 use Prim.{tt}
 use Prim.Native.Nat.{ℕ, ◌+◌, ◌*◌, ◌≤◌}
 use mathlib.Core.Path.{◌≡◌, refl, sym, ap, ◌∙◌, subst}
-use mathlib.Core.Bool.{true, false, not, cond}
+use mathlib.Core.Logic.{⊎_elim}
+use mathlib.Core.Bool.{true, not}
 use mathlib.Core.List.{List, ◌∷◌, ◌++◌, map}
-use Rattle.std.specs.Prelude.{Some}
+use Rattle.std.specs.Prelude.{None, Some}
 use native.Mathlib.Omega.{arith}
 use lib.ListN.{length, take, drop, length-append, length-map}
 use lib.Seq.{take_at}
+use Rattle.std.specs.Prelude.{Result}
 use Rattle.laws.specs.Answer.{Answer, refused, answered, Kept}
+use Rattle.refusals.specs.declared.Refusal.{Refusal}
+use Rattle.refusals.specs.Refusal.{answer_as}
 use Rattle.decimal.specs.Print.{digits_of}
-use Rattle.laws.specs.Lists.{all}
-use Rattle.rules.specs.Entry.{Entry, is_sample}
-use Rattle.rules.specs.State.{State, Counts}
+use Rattle.laws.specs.Lists.{list_all}
+use Rattle.rules.specs.Entry.{is_sample}
+use Rattle.rules.specs.declared.entry.Entry.{Entry}
+use Rattle.rules.specs.State.{State}
+use Rattle.rules.specs.declared.state.ReleaseCounts.{ReleaseCounts}
+use Rattle.rules.specs.declared.view.Pair.{Pair}
+use Rattle.rules.specs.declared.view.DigestRow.{DigestRow}
 use Rattle.rules.specs.Offer.{refusal}
-use Rattle.rules.specs.Release.{View, Outcome, release_refusal, release, work_of}
+use Rattle.rules.specs.Release.{View, Outcome, malformed, released_if, release_refusal, release, work_of}
 use Rattle.rules.specs.Run.{place_of, said_release, written}
 use Rattle.rules.specs.Claim.{outcome_of}
 use Rattle.rules.proofs.Stays.{release_cases, released_stays}
 use Rattle.rules.proofs.Conserve.{OnlySamples, only_samples}
-use Rattle.group_view.specs.View.{more, view_of}
-use Rattle.store.specs.Store.{state_of}
-use Rattle.release.specs.Released.{count_out, release_to, release_noted}
-use Rattle.call_line.specs.Line.{releases}
+use Rattle.release.specs.Released.{count_out, release_to, view_of}
+use Rattle.call_line.specs.declared.line.Line.TheVariants as L
 use Rattle.calls.specs.Run.{Calls, rows_of, refused_text, samples_text, counts_text, out_text, release_text, run_call}
 use Rattle.calls.specs.Said.{Said, places_text}
-use Rattle.calls.specs.Runs.{StandRows, Stands, Ran}
-use Rattle.calls.proofs.Standing.{every_stands, history_stands}
+use Rattle.calls.specs.Narrow.{wide, Narrow}
+use Rattle.calls.specs.Runs.{Stands, Ran}
+use Rattle.calls.proofs.Standing.{calls_of, every_stands, history_stands}
 use Rattle.decimal.proofs.Lengths.{printed_long}
 use Rattle.calls.proofs.Running.{ran_said, refused_long}
-use Rattle.calls.proofs.Places.{wide, out_narrow, places_text_lem}
+use Rattle.calls.proofs.Narrowing.{out_narrow, release_narrow}
+use Rattle.calls.proofs.Places.{places_text_lem}
 
 -- what a release says: its count, the state, the lent list
-abbrev Told : Type 0
+abbrev pub Told : Type 0
 Told = Answer ℕ × State ℕ × List ℕ
 
 abbrev Says : Told → List ℕ → Answer (Outcome ℕ) × State ℕ → Type 0
@@ -42,27 +50,32 @@ Says x l r = x ≡ (count_out r.0, r.1, written (said_release r.0) l)
 abbrev release_of : Calls → ℕ → Answer (Outcome ℕ) × State ℕ
 release_of c now = release c.history (rows_of c) now 256
 
--- the release on the view is theirs
-stands_release : (now : ℕ) (l : List ℕ) {c : Calls} {store view : List ℕ} {x : Told} → Stands c store view → length l ≡ 256 → x ≡ release_noted view (state_of store) now l → Says x l (release_of c now)
-unfolding release_noted release_to release release_refusal refusal
-stands_release now l {c} {store} {view} s j e =
-    e ∙ (elim (more view) as (λ b. StandRows b view c → cond b (refused 9, state_of store, l) (release_to (state_of store) (view_of view) now l) ≡ (count_out (release_of c now).0, (release_of c now).1, written (said_release (release_of c now).0) l)) [
-      | true ↦ λ m. rw (s.history, m)
-      | false ↦ λ w. rw (s.history, w, j)
-    ]) s.rows
+module _ (now : ℕ) (l : List ℕ) {c : Calls} {h : State ℕ} {ps : List Pair} {ds : List DigestRow} (s : Stands c (calls_of h ps ds)) (j : length l ≡ 256) where
+  same_rows : view_of ps ds ≡ rows_of c → Says (release_to h (view_of ps ds) now l) l (release_of c now)
+  unfolding release_to
+  same_rows q = rw (s.history, q, j)
+
+  both_malformed : malformed (view_of ps ds) ≡ true → malformed (rows_of c) ≡ true → Says (release_to h (view_of ps ds) now l) l (release_of c now)
+  unfolding release_to release release_refusal refusal
+  both_malformed m k = rw (s.history, m, k)
+
+  -- it is the release on their rows
+  stands_release : {x : Told} → x ≡ release_to h (view_of ps ds) now l → Says x l (release_of c now)
+  unfolding rows_of
+  stands_release e = e ∙ ⊎_elim (λ q. same_rows q) (λ m. both_malformed m.0 m.1) s.rows
 
 -- ---- what is handed out
 
 record Handed (l : List (Entry ℕ)) : Type 0 where
-  samples : all (λ e. is_sample e) l ≡ true
-  narrow : all (λ e. not (wide e)) l ≡ true
+  samples : list_all (λ e. is_sample e) l ≡ true
+  narrow : list_all (λ e. not (wide e)) l ≡ true
 
-handed : (store : List ℕ) (v : View) (now room : ℕ) → Handed (outcome_of (release (state_of store) v now room).0).out
-unfolding OnlySamples all work_of
-handed store v now room =
-    release_cases (λ r t. Handed r.out) (state_of store) v now room
+handed : (s : State ℕ) (v : View) (now room : ℕ) → Narrow s → Handed (outcome_of (release s v now room).0).out
+unfolding OnlySamples work_of
+handed s v now room n =
+    release_cases (λ r t. Handed r.out) s v now room
     (record { samples = refl; narrow = refl })
-    (record { samples = (released_stays OnlySamples only_samples (state_of store) v now (refl, refl)).0; narrow = out_narrow store v now })
+    (record { samples = (released_stays OnlySamples only_samples s v now (refl, refl)).0; narrow = out_narrow s v now n })
 
 -- the places of an answered release
 record Places (n : ℕ) (places : List ℕ) (l : List (Entry ℕ)) : Type 0 where
@@ -70,14 +83,14 @@ record Places (n : ℕ) (places : List ℕ) (l : List (Entry ℕ)) : Type 0 wher
   count : n ≡ length l
   are : take n places ≡ map (λ e. place_of e) l
 
-counts_long : (c : Counts) → length (counts_text c) ≤ 86
+counts_long : (c : ReleaseCounts) → length (counts_text c) ≤ 86
 unfolding counts_text
 counts_long c =
-    let a : List ℕ = 32 ∷ 124 ∷ 32 ∷ digits_of c.skipped in
-    let b : List ℕ = 32 ∷ digits_of c.incomplete in
-    let d : List ℕ = 32 ∷ digits_of c.discarded in
-    let e : List ℕ = 32 ∷ digits_of c.late in
-    omega (arith, length-append (a ++ b ++ d) e, length-append (a ++ b) d, length-append a b, printed_long c.skipped, printed_long c.incomplete, printed_long c.discarded, printed_long c.late)
+    let a : List ℕ = 32 ∷ 124 ∷ 32 ∷ digits_of c.skipped_after_timeout in
+    let b : List ℕ = 32 ∷ digits_of c.incomplete_sets in
+    let d : List ℕ = 32 ∷ digits_of c.discarded_samples in
+    let e : List ℕ = 32 ∷ digits_of c.late_samples in
+    omega (arith, length-append (a ++ b ++ d) e, length-append (a ++ b) d, length-append a b, printed_long c.skipped_after_timeout, printed_long c.incomplete_sets, printed_long c.discarded_samples, printed_long c.late_samples)
 
 -- an answered release: its count, its places and what is printed of them
 module _ (l : List ℕ) {n : ℕ} {t : State ℕ} {places : List ℕ} (k : length places ≡ 256) where
@@ -98,7 +111,7 @@ module _ (l : List ℕ) {n : ℕ} {t : State ℕ} {places : List ℕ} (k : lengt
         are = ap (λ (x : List ℕ). take n x) p ∙ take_at (map (λ x. place_of x) r.out) (drop (length r.out) l) n (m ∙ sym h);
       }
 
-  out_text_lem : (a : Answer (Outcome ℕ)) (u : State ℕ) (c : Counts) → Says (answered n, t, places) l (a, u) → Handed (outcome_of a).out
+  out_text_lem : (a : Answer (Outcome ℕ)) (u : State ℕ) (c : ReleaseCounts) → Says (answered n, t, places) l (a, u) → Handed (outcome_of a).out
       → ((111 ∷ 117 ∷ 116 ∷ places_text (take n places) ++ counts_text c) ≡ release_text a c) × (length (places_text (take n places)) ≤ 15 * 256)
   unfolding out_text
   out_text_lem (refused m) u c e h =
@@ -113,49 +126,64 @@ module _ (l : List ℕ) {n : ℕ} {t : State ℕ} {places : List ℕ} (k : lengt
 
 -- ---- a release run
 
-kept_out : (a : Answer (Outcome ℕ)) (s s' : List ℕ) → Kept (count_out a) s s' → Kept a s s'
-unfolding Kept
-kept_out (refused n) s s' k = k
-kept_out (answered r) s s' k = k
+release_kept : (s : State ℕ) (v : View) (now room : ℕ) → Kept (release s v now room).0 s (release s v now room).1
+unfolding release Kept
+release_kept s v now room =
+    elim (release_refusal s v room) as (λ r. Kept (released_if r s v now).0 s (released_if r s v now).1) [ Some n ↦ refl | None ↦ tt ]
 
-ran_release : (l : List ℕ) {a : Answer ℕ} {now r : ℕ} {s store view store' places out out' : List ℕ}
-    → length l ≡ 256 → ◌≡◌ {A = Told} (a, state_of store', places) (release_noted view (state_of store) now l)
-    → Kept a store store' → Said 0 s r out out' → length s ≤ length out
-    → ((c : Calls) → Stands c store view → Says (a, state_of store', places) l (release_of c now) → s ≡ release_text (release_of c now).0 (release_of c now).1.counts)
-    → Ran (Some (releases now)) r store view out store' view out'
-unfolding run_call
-ran_release l {now = now} {store = store} {store' = store'} j e k x h g =
-    ran_said x h
-    (λ c s. history_stands (ap (λ y. y.1) (stands_release now l s j e)) s)
-    (λ c s. (kept_out (release_of c now).0 store store' (subst (λ (b : Answer ℕ). Kept b store store') (ap (λ y. y.0) (stands_release now l s j e)) k), refl))
-    (λ c s. g c s (stands_release now l s j e))
+-- what a refused release leaves
+left_as : (now : ℕ) (c : Calls) (h h' : State ℕ) → h ≡ c.history → h' ≡ (release_of c now).1 → Kept (release_of c now).0 h h'
+left_as now c h h' t q =
+    subst (λ y. Kept (release_of c now).0 y h') (sym t) (subst (λ y. Kept (release_of c now).0 c.history y) (sym q) (release_kept c.history (rows_of c) now 256))
+
+ran_release : (l : List ℕ) {n now : ℕ} {a : Answer ℕ} {h h' : State ℕ} {ps : List Pair} {ds : List DigestRow} {s places out out' : List ℕ}
+    → length l ≡ 256 → ◌≡◌ {A = Told} (a, h', places) (release_to h (view_of ps ds) now l) → Said n s out out' → length s ≤ 3929
+    → ((c : Calls) → Stands c (calls_of h ps ds) → Says (a, h', places) l (release_of c now) → s ≡ release_text (release_of c now).0 (release_of c now).1.counts)
+    → Ran n (Some (L.Release now)) (calls_of h ps ds) (calls_of h' ps ds) out out'
+unfolding run_call rows_of
+ran_release l {now = now} {h = h} {h' = h'} j e x long g =
+    ran_said x long
+    (λ c t. history_stands (ap (λ (y : Told). y.1) (stands_release now l t j e)) t)
+    (λ c t. (left_as now c h h' t.history (ap (λ (y : Told). y.1) (stands_release now l t j e)), refl))
+    (λ c t. g c t (stands_release now l t j e))
 
 -- the places fit the list
-pub wrote_within : (l store view : List ℕ) (now : ℕ) {n : ℕ} {t : State ℕ} {places : List ℕ}
-    → length l ≡ 256 → length places ≡ 256 → ◌≡◌ {A = Told} (answered n, t, places) (release_noted view (state_of store) now l) → n ≤ 256
-wrote_within l store view now j k e =
-    let c = every_stands store view in
-    (wrote l k (release_of c.0 now).0 (release_of c.0 now).1 (stands_release now l c.1 j e)).many
+pub wrote_within : (l : List ℕ) (now : ℕ) (h : State ℕ) (ps : List Pair) (ds : List DigestRow) {h' : State ℕ} {n : ℕ} {places : List ℕ}
+    → length l ≡ 256 → length places ≡ 256 → ◌≡◌ {A = Told} (answered n, h', places) (release_to h (view_of ps ds) now l) → n ≤ 256
+wrote_within l now h ps ds j k e =
+    let c = calls_of h ps ds in
+    (wrote l k (release_of c now).0 (release_of c now).1 (stands_release now l (every_stands c) j e)).many
 
-pub ran_released : (l : List ℕ) {n now r : ℕ} {k : Counts} {store view store' places out out' : List ℕ}
-    → length l ≡ 256 → length places ≡ 256 → ◌≡◌ {A = Told} (answered n, state_of store', places) (release_noted view (state_of store) now l)
-    → k ≡ (state_of store').counts → Said 0 (111 ∷ 117 ∷ 116 ∷ places_text (take n places) ++ counts_text k) r out out' → length out ≡ 4096
-    → Ran (Some (releases now)) r store view out store' view out'
-unfolding Kept
-ran_released l {n} {now} {r} {k} {store} {view} {store'} {places} j m e q x h =
-    let text : (c : Calls) → Stands c store view → ((111 ∷ 117 ∷ 116 ∷ places_text (take n places) ++ counts_text k) ≡ release_text (release_of c now).0 k) × (length (places_text (take n places)) ≤ 15 * 256) =
-    λ c s. out_text_lem l m (release_of c now).0 (release_of c now).1 k (stands_release now l s j e) (subst (λ (y : State ℕ). Handed (outcome_of (release y (rows_of c) now 256).0).out) s.history (handed store (rows_of c) now 256)) in
-    let some-calls = every_stands store view in
-    ran_release l j e tt x (omega (arith, (text some-calls.0 some-calls.1).1, counts_long k, h, length-append (111 ∷ 117 ∷ 116 ∷ places_text (take n places)) (counts_text k)))
-    (λ c s f. (text c s).0 ∙ ap (λ (z : Counts). release_text (release_of c now).0 z) (q ∙ ap (λ y. y.1.counts) f))
+pub ran_released : (l : List ℕ) {m n now : ℕ} {k : ReleaseCounts} {h h' : State ℕ} {ps : List Pair} {ds : List DigestRow} {places out out' : List ℕ}
+    → length l ≡ 256 → length places ≡ 256 → ◌≡◌ {A = Told} (answered n, h', places) (release_to h (view_of ps ds) now l) → Narrow h
+    → k ≡ h'.counts → Said m (111 ∷ 117 ∷ 116 ∷ places_text (take n places) ++ counts_text k) out out'
+    → Ran m (Some (L.Release now)) (calls_of h ps ds) (calls_of h' ps ds) out out'
+ran_released l {m} {n} {now} {k} {h} {h'} {ps} {ds} {places} j z e w q x =
+    let text : (c : Calls) → Stands c (calls_of h ps ds) → ((111 ∷ 117 ∷ 116 ∷ places_text (take n places) ++ counts_text k) ≡ release_text (release_of c now).0 k) × (length (places_text (take n places)) ≤ 15 * 256) =
+    λ c s. out_text_lem l z (release_of c now).0 (release_of c now).1 k (stands_release now l s j e) (handed c.history (rows_of c) now 256 (subst (λ y. Narrow y) s.history w)) in
+    ran_release l j e x (omega (arith, (text (calls_of h ps ds) (every_stands (calls_of h ps ds))).1, counts_long k, length-append (111 ∷ 117 ∷ 116 ∷ places_text (take n places)) (counts_text k)))
+    (λ c s f. (text c s).0 ∙ ap (λ (z : ReleaseCounts). release_text (release_of c now).0 z) (q ∙ ap (λ (y : Told). y.1.counts) f))
 
-refusal_text : (n : ℕ) (a : Answer (Outcome ℕ)) (c : Counts) → refused n ≡ count_out a → refused_text n ≡ release_text a c
+refusal_text : (n : ℕ) (a : Answer (Outcome ℕ)) (c : ReleaseCounts) → refused n ≡ count_out a → refused_text n ≡ release_text a c
 refusal_text n (refused m) c e = let h : n ≡ m = cc in ap refused_text h
 refusal_text n (answered r) c e = let z : ◌≡◌ {A = ℕ} 0 1 = cc in absurd (omega arith)
 
-pub ran_refused : (l : List ℕ) {n now r : ℕ} {store view store' places out out' : List ℕ}
-    → length l ≡ 256 → ◌≡◌ {A = Told} (refused n, state_of store', places) (release_noted view (state_of store) now l)
-    → Kept {X = ℕ} (refused n) store store' → Said 0 (refused_text n) r out out' → length out ≡ 4096
-    → Ran (Some (releases now)) r store view out store' view out'
-ran_refused l {n} {now} j e z x h =
-    ran_release l j e z x (omega (arith, refused_long n, h)) (λ c s f. refusal_text n (release_of c now).0 (release_of c now).1.counts (ap (λ y. y.0) f))
+pub ran_refused : (l : List ℕ) {m n now : ℕ} {h h' : State ℕ} {ps : List Pair} {ds : List DigestRow} {places out out' : List ℕ}
+    → length l ≡ 256 → ◌≡◌ {A = Told} (refused n, h', places) (release_to h (view_of ps ds) now l) → Said m (refused_text n) out out'
+    → Ran m (Some (L.Release now)) (calls_of h ps ds) (calls_of h' ps ds) out out'
+ran_refused l {m} {n} {now} j e x =
+    ran_release l j e x (omega (arith, refused_long n))
+    (λ c s f. refusal_text n (release_of c now).0 (release_of c now).1.counts (ap (λ (y : Told). y.0) f))
+
+-- ---- as the code has it
+
+pub told_by : (h : State ℕ) (now : ℕ) (l : List ℕ) {r q : Result ℕ Refusal} {h' : State ℕ} {ps qs : List Pair} {ds es : List DigestRow} {places : List ℕ}
+    → r ≡ q → ps ≡ qs → ds ≡ es → ◌≡◌ {A = Told} (answer_as r, h', places) (release_to h (view_of ps ds) now l)
+    → ◌≡◌ {A = Told} (answer_as q, h', places) (release_to h (view_of qs es) now l)
+told_by h now l {r} {q} {h'} {ps} {qs} {ds} {es} {places} a b c e =
+    ap (λ x. (answer_as x, h', places)) (sym a) ∙ e ∙ ap (λ x. release_to h (view_of x ds) now l) b ∙ ap (λ x. release_to h (view_of qs x) now l) c
+
+pub narrow_after : (h : State ℕ) (v : View) (now : ℕ) (l : List ℕ) {a : Answer ℕ} {h' : State ℕ} {places : List ℕ}
+    → ◌≡◌ {A = Told} (a, h', places) (release_to h v now l) → Narrow h → Narrow h'
+unfolding release_to
+narrow_after h v now l e n = subst (λ s. Narrow s) (sym (ap (λ (y : Told). y.1) e)) (release_narrow h v now (length l) n)

@@ -1,26 +1,27 @@
 -- Laws of what is said: texts put one after the other are put at once.
-use Prim.Native.Nat.{ℕ, zero, suc, ◌<◌}
+use Prim.Native.Nat.{ℕ, zero, suc, ◌<◌, ◌≤◌}
 use mathlib.Core.Path.{◌≡◌, sym, ap, ◌∙◌, subst}
 use mathlib.Core.List.{List, [], ◌∷◌, ◌++◌, append-nil, append_assoc}
 use native.Mathlib.Omega.{arith}
+use lib.Seq.{take_all}
 use lib.ListN.{length, get_or, take}
-use Rattle.decimal.specs.Print.{put}
-use Rattle.decimal.proofs.Putting.{put_none, puts}
+use Rattle.decimal.proofs.Putting.{put_behind}
 use Rattle.calls.specs.Said.{Said, place_text, places_text}
 
 -- by the answers of crate `decimal`
-pub said : {at r : ℕ} {s out out' : List ℕ} → (r, out') ≡ put out at s → Said at s r out out'
+pub said : {n : ℕ} {s out out' : List ℕ} → out' ≡ take n (out ++ s) → Said n s out out'
 said e = record { is = e }
 
-pub said_nothing : (out : List ℕ) (at : ℕ) → Said at [] at out out
-said_nothing out at = said (put_none out at)
+pub said_nothing : {n : ℕ} (out : List ℕ) → length out ≤ n → Said n [] out out
+said_nothing {n} out h = said (sym (take_all n out h) ∙ ap (λ t. take n t) (sym (append-nil out)))
 
 -- what is said next is put behind
-pub said_both : {at r q : ℕ} {a b out m out' : List ℕ} → Said at a r out m → Said r b q m out' → Said at (a ++ b) q out out'
-said_both {at} {r} {q} {a} {b} {out} x y = said (puts out at a b x.is y.is)
+pub said_both : {n : ℕ} {a b out m out' : List ℕ} → Said n a out m → Said n b m out' → Said n (a ++ b) out out'
+said_both {n} {a} {b} {out} x y =
+    said (y.is ∙ ap (λ t. take n (t ++ b)) x.is ∙ put_behind n (out ++ a) b ∙ ap (λ t. take n t) (append_assoc out a b))
 
-pub said_as : {at r : ℕ} {s t out out' : List ℕ} → t ≡ s → Said at s r out out' → Said at t r out out'
-said_as {at} {r} {s} {t} {out} {out'} e x = subst (λ (l : List ℕ). Said at l r out out') (sym e) x
+pub said_as : {n : ℕ} {s t out out' : List ℕ} → t ≡ s → Said n s out out' → Said n t out out'
+said_as {n} {s} {t} {out} {out'} e x = subst (λ (l : List ℕ). Said n l out out') (sym e) x
 
 -- ---- the places of a release
 

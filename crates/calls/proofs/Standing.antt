@@ -1,54 +1,38 @@
--- Laws of what the lent words stand for.
-use Prim.Native.Nat.{ℕ}
-use mathlib.Core.Path.{◌≡◌, refl, sym, ap, ◌∙◌, subst}
-use mathlib.Core.Bool.{Bool, true, false, not, ◌||◌}
+-- Laws of what the code's calls stand for.
+use Prim.{Unit}
+use Prim.Native.Nat.{ℕ, ◌<◌}
+use mathlib.Core.Path.{◌≡◌, refl, sym, ap, ◌∙◌}
+use mathlib.Core.Logic.{◌⊎◌, inl, inr, ⊎_elim}
+use mathlib.Core.Bool.{Bool, true, false, ◌||◌}
 use mathlib.Core.List.{List, [], ◌∷◌, ◌++◌, append-nil}
 use native.Mathlib.Omega.{arith}
-use borrow.Author.Tests.{ltb-true, ltb-false, lt-ltb}
+use borrow.Author.Tests.{ltb-true, lt-ltb}
 use lib.Dec.{ltb}
 use lib.ListN.{length, length-append}
-use Rattle.laws.specs.Lists.{any}
-use Rattle.rules.specs.State.{State, fresh}
-use Rattle.rules.specs.Sets.{Pair}
-use Rattle.rules.specs.Commit.{DigestRow}
-use Rattle.rules.specs.Release.{View, malformed}
+use Rattle.std.specs.Prelude.{Result, Ok, Err, OnOk, OnErr}
+use Rattle.arrayvec.specs.ArrayVec.{ArrayVec}
+use Rattle.laws.specs.Lists.{list_any}
 use Rattle.laws.proofs.Lists.{or_true_left, or_true_right, any_append, any_imp}
-use Rattle.group_view.specs.View.{pair_as, digest_row_as, pairs_of, digests_of, more, view_of, Cleared, Noted, NotedDigest}
-use Rattle.group_view.specs.declared.view.Pair as P
-use Rattle.group_view.specs.declared.view.DigestRow as D
-use Rattle.store.specs.Store.{state_of}
-use Rattle.call_line.specs.Line.{counts, digests}
-use Rattle.calls.specs.Run.{Calls, afresh, begun, rows_of, with_history, run_call}
-use Rattle.calls.specs.Runs.{StandRows, Stands}
+use Rattle.rules.specs.State.{State}
+use Rattle.rules.specs.declared.view.Pair.{Pair}
+use Rattle.rules.specs.declared.view.DigestRow.{DigestRow}
+use Rattle.rules.specs.Release.{View, malformed}
+use Rattle.call_line.specs.declared.line.Line.TheVariants as L
+use Rattle.calls.specs.Run.{Calls, rows_of, with_history, run_call}
+use Rattle.calls.specs.Runs.{Stands}
 
--- all words stand for some calls
-stands_by : (b : Bool) (store view : List ℕ) → (c : Calls) × ((state_of store ≡ c.history) × StandRows b view c)
-unfolding view_of rows_of malformed any
-stands_by false store view = (record { history = state_of store; counted = pairs_of view; digests = digests_of view }, (refl, refl))
-stands_by true store view = (record { history = state_of store; counted = record { group = []; writer = []; reader = 8 } ∷ []; digests = [] }, (refl, refl))
+-- all calls of the code stand for some calls
+pub every_stands : (d : Calls) → Stands d d
+every_stands d = record { history = refl; rows = inl refl }
 
-pub every_stands : (store view : List ℕ) → (c : Calls) × Stands c store view
-every_stands store view =
-    let s = stands_by (more view) store view in
-    (s.0, record { history = s.1.0; rows = s.1.1 })
-
-pub afresh_stands : (t : ℕ) {store view : List ℕ} → state_of store ≡ fresh t → Cleared view → Stands (afresh t) store view
-unfolding afresh view_of rows_of
-afresh_stands t {store} {view} e v = record { history = e; rows = subst (λ b. StandRows b view (afresh t)) (sym v.none_more) (rw (v.pairs, v.digests)) }
-
-pub begun_stands : {store view : List ℕ} → state_of store ≡ fresh 1000000000 → Cleared view → Stands begun store view
-unfolding begun
-begun_stands e v = afresh_stands 1000000000 e v
+abbrev pub calls_of : State ℕ → List Pair → List DigestRow → Calls
+calls_of h ps ds = record { history = h; counted = ps; digests = ds }
 
 -- a call of the history leaves the rows
-rows_stay : (b : Bool) (view : List ℕ) (s : State ℕ) (c : Calls) → StandRows b view c → StandRows b view (with_history s c)
+pub history_stands : {c : Calls} {h h' s : State ℕ} {ps : List Pair} {ds : List DigestRow} → h' ≡ s → Stands c (calls_of h ps ds)
+    → Stands (with_history s c) (calls_of h' ps ds)
 unfolding with_history rows_of
-rows_stay true view s c h = h
-rows_stay false view s c h = h
-
-pub history_stands : {s : State ℕ} {c : Calls} {store view store' : List ℕ} → state_of store' ≡ s → Stands c store view → Stands (with_history s c) store' view
-unfolding with_history
-history_stands {s} {c} {store} {view} e h = record { history = e; rows = rows_stay (more view) view s c h.rows }
+history_stands e s = record { history = e; rows = s.rows }
 
 -- ---- malformed rows stay so with more of them
 
@@ -57,8 +41,8 @@ or_each true b c d f g e = or_true_left c d (f refl)
 or_each false b c d f g e = or_true_right c d (g e)
 
 module _ {A : Type 0} (l m : List A) where
-  any_more : (p : A → Bool) → any p l ≡ true → any p (l ++ m) ≡ true
-  any_more p h = any_append p l m ∙ or_true_left (any p l) (any p m) h
+  any_more : (p : A → Bool) → list_any p l ≡ true → list_any p (l ++ m) ≡ true
+  any_more p h = any_append p l m ∙ or_true_left (list_any p l) (list_any p m) h
 
   over_more : (n : ℕ) → ltb n (length l) ≡ true → ltb n (length (l ++ m)) ≡ true
   over_more n h = lt-ltb n (length (l ++ m)) (omega (arith, ltb-true n (length l) h, length-append l m))
@@ -69,46 +53,61 @@ malformed_more v ps ds =
     or_each _ _ _ _ (or_each _ _ _ _ (or_each _ _ _ _ (over_more v.counted ps 256) (over_more v.digests ds 8)) (any_more v.counted ps (λ p. ltb 7 p.reader)))
     (λ h. any_more v.digests ds _ (any_imp _ _ (λ a. any_more v.digests ds _) v.digests h))
 
+-- over 256 counted rows, over 8 digest rows
+many_counted : (ps : List Pair) (ds : List DigestRow) → 256 < length ps → malformed (record { counted = ps; digests = ds }) ≡ true
+unfolding malformed
+many_counted ps ds h = or_true_left _ _ (or_true_left _ _ (or_true_left _ _ (lt-ltb 256 (length ps) h)))
+
+many_digests : (ps : List Pair) (ds : List DigestRow) → 8 < length ds → malformed (record { counted = ps; digests = ds }) ≡ true
+unfolding malformed
+many_digests ps ds h = or_true_left _ _ (or_true_left _ _ (or_true_right _ _ (lt-ltb 8 (length ds) h)))
+
 -- ---- a row more
 
--- by whether there were more than the view holds, and whether it has room
-rows_next : (b room : Bool) (view view' : List ℕ) (c d : Calls)
-    → (malformed (rows_of c) ≡ true → malformed (rows_of d) ≡ true)
-    → (room ≡ true → view_of view ≡ rows_of c → view_of view' ≡ rows_of d)
-    → (room ≡ false → view_of view ≡ rows_of c → malformed (rows_of d) ≡ true)
-    → StandRows b view c → StandRows (b || not room) view' d
-rows_next true room view view' c d f g k h = f h
-rows_next false true view view' c d f g k h = g refl h
-rows_next false false view view' c d f g k h = k refl h
+-- it is pushed behind the others, or they were n
+abbrev pub Pushed : {A : Type 0} → ℕ → A → List A → List A → Type 0
+Pushed n a l l' = (l' ≡ l ++ (a ∷ [])) ⊎ ((l' ≡ l) × (length l ≡ n))
 
-pub counted_stands : {p : P.Pair} {c : Calls} {store view view' : List ℕ} → Noted p view view' → Stands c store view
-    → Stands (run_call c (counts (pair_as p))).0 store view'
-unfolding run_call rows_of view_of malformed
-counted_stands {p} {c} {store} {view} {view'} n s =
-    let d : Calls = (run_call c (counts (pair_as p))).0 in
-    record {
-      history = s.history;
-      rows =
-          subst (λ b. StandRows b view' d) (sym n.any_more)
-          (rows_next (more view) (ltb (length (pairs_of view)) 256) view view' c d
-          (λ m. ap (λ ds. malformed (record { counted = c.counted ++ (pair_as p ∷ []); digests = ds })) (sym (append-nil c.digests)) ∙ malformed_more (rows_of c) (pair_as p ∷ []) [] m)
-          (λ e w. rw (n.pairs, n.digests, e) (ap (λ (v : View). record { counted = v.counted ++ (pair_as p ∷ []); digests = v.digests }) w))
-          (λ e w. or_true_left _ _ (or_true_left _ _ (or_true_left _ _ (lt-ltb 256 (length d.counted) (omega (arith, ltb-false (length (pairs_of view)) 256 e, ap (λ (v : View). length v.counted) w, length-append c.counted (pair_as p ∷ [])))))))
-          s.rows);
-    }
+pub pushed : {A E : Type 0} (n : ℕ) (a : A) (v v' : ArrayVec A) (r : Result (Unit {0}) E)
+    → OnOk r (v'.items ≡ v.items ++ (a ∷ [])) → OnErr r (v' ≡ v) → OnErr r (length v.items ≡ n) → Pushed n a v.items v'.items
+pushed n a v v' (Ok u) p q k = inl p
+pushed n a v v' (Err e) p q k = inr (ap (λ x. x.items) q, k)
 
-pub digest_stands : {r : D.DigestRow} {c : Calls} {store view view' : List ℕ} → NotedDigest r view view' → Stands c store view
-    → Stands (run_call c (digests (digest_row_as r))).0 store view'
-unfolding run_call rows_of view_of malformed
-digest_stands {r} {c} {store} {view} {view'} n s =
-    let d : Calls = (run_call c (digests (digest_row_as r))).0 in
-    record {
-      history = s.history;
-      rows =
-          subst (λ b. StandRows b view' d) (sym n.any_more)
-          (rows_next (more view) (ltb (length (digests_of view)) 8) view view' c d
-          (λ m. ap (λ ps. malformed (record { counted = ps; digests = c.digests ++ (digest_row_as r ∷ []) })) (sym (append-nil c.counted)) ∙ malformed_more (rows_of c) [] (digest_row_as r ∷ []) m)
-          (λ e w. rw (n.pairs, n.digests, e) (ap (λ (v : View). record { counted = v.counted; digests = v.digests ++ (digest_row_as r ∷ []) }) w))
-          (λ e w. or_true_left _ _ (or_true_left _ _ (or_true_right (ltb 256 (length c.counted)) _ (lt-ltb 8 (length d.digests) (omega (arith, ltb-false (length (digests_of view)) 8 e, ap (λ (v : View). length v.digests) w, length-append c.digests (digest_row_as r ∷ [])))))))
-          s.rows);
-    }
+module _ {c : Calls} {h : State ℕ} {ps : List Pair} {ds : List DigestRow} where
+  pub counted_stands : (p : Pair) (ps' : List Pair) → Pushed 257 p ps ps' → Stands c (calls_of h ps ds) → Stands (run_call c (L.Counted p)).0 (calls_of h ps' ds)
+  unfolding run_call rows_of
+  counted_stands p ps' x s = record {
+    history = s.history;
+    rows =
+        ⊎_elim
+        (λ q.
+        ⊎_elim
+        (λ e. inl (rw q (ap (λ (v : View). record { counted = v.counted ++ (p ∷ []); digests = v.digests }) e)))
+        (λ m. inr (rw q (rw (sym (append-nil ds)) (malformed_more (record { counted = ps; digests = ds }) (p ∷ []) [] m.0)), rw (sym (append-nil c.digests)) (malformed_more (rows_of c) (p ∷ []) [] m.1)))
+        s.rows)
+        (λ q.
+        ⊎_elim
+        (λ e. inr (many_counted ps' ds (omega (arith, q.1, ap length q.0)), many_counted (c.counted ++ (p ∷ [])) c.digests (omega (arith, q.1, ap (λ (v : View). length v.counted) e, length-append c.counted (p ∷ [])))))
+        (λ m. inr (many_counted ps' ds (omega (arith, q.1, ap length q.0)), rw (sym (append-nil c.digests)) (malformed_more (rows_of c) (p ∷ []) [] m.1)))
+        s.rows)
+        x;
+  }
+
+  pub digest_stands : (d : DigestRow) (ds' : List DigestRow) → Pushed 9 d ds ds' → Stands c (calls_of h ps ds) → Stands (run_call c (L.Digest d)).0 (calls_of h ps ds')
+  unfolding run_call rows_of
+  digest_stands d ds' x s = record {
+    history = s.history;
+    rows =
+        ⊎_elim
+        (λ q.
+        ⊎_elim
+        (λ e. inl (rw q (ap (λ (v : View). record { counted = v.counted; digests = v.digests ++ (d ∷ []) }) e)))
+        (λ m. inr (rw q (rw (sym (append-nil ps)) (malformed_more (record { counted = ps; digests = ds }) [] (d ∷ []) m.0)), rw (sym (append-nil c.counted)) (malformed_more (rows_of c) [] (d ∷ []) m.1)))
+        s.rows)
+        (λ q.
+        ⊎_elim
+        (λ e. inr (many_digests ps ds' (omega (arith, q.1, ap length q.0)), many_digests c.counted (c.digests ++ (d ∷ [])) (omega (arith, q.1, ap (λ (v : View). length v.digests) e, length-append c.digests (d ∷ [])))))
+        (λ m. inr (many_digests ps ds' (omega (arith, q.1, ap length q.0)), rw (sym (append-nil c.counted)) (malformed_more (rows_of c) [] (d ∷ []) m.1)))
+        s.rows)
+        x;
+  }

@@ -1,4 +1,5 @@
 pub mod Run
 pub mod Said
+pub mod Narrow
 pub mod Runs
 pub mod Steps

@@ -1,10 +1,10 @@
--- Bytes put into a lent list, and the text of a release's answer by the places it wrote.
-use Rattle.std.specs.Prelude.{ℕ, ◌/◌, ◌%◌, ◌^◌, ◌≡◌, List, [], ◌∷◌, ◌++◌}
-use Rattle.decimal.specs.Print.{digits_of, put}
+-- Bytes put behind a text, and the text of a release's answer by the places it wrote.
+use Rattle.std.specs.Prelude.{ℕ, ◌/◌, ◌%◌, ◌^◌, ◌≡◌, List, [], ◌∷◌, ◌++◌, take}
+use Rattle.decimal.specs.Print.{digits_of}
 
--- s is put into out from `at` on, as far as there is room, and r is the place behind it
-pub record Said (at : ℕ) (s : List ℕ) (r : ℕ) (out out' : List ℕ) : Type 0 where
-  pub is : (r, out') ≡ put out at s
+-- s is put behind the text, as far as it has room for n bytes
+pub record Said (n : ℕ) (s text text' : List ℕ) : Type 0 where
+  pub is : text' ≡ take n (text ++ s)
 
 -- a space, reader:item of a place, reader · 2^32 + item
 unfoldable pub place_text : ℕ → List ℕ

@@ -3,4 +3,4 @@
 
 pub mod list;
 pub mod run;
-mod say;
+pub mod say;

@@ -1,170 +1,135 @@
-// A line of the call list, run.
-ghost use Rattle.std.specs.Prelude.{◌≡◌, length};
-ghost use Rattle.std.specs.Prelude.{Some, None};
-ghost use Rattle.call_line.specs.Line.{starts, counts, digests, offers, heartbeats, gaps, releases, line_of};
-ghost use Rattle.call_line.specs.Parsed.{pair_of, digest_row_of, offer_of, heartbeat_of, gap_of, parsed_as};
+// The lines of a call list, run.
+ghost use Rattle.std.specs.Prelude.{◌≡◌};
+ghost use Rattle.std.specs.Prelude.{Some};
+ghost use Rattle.call_line.specs.Line.{line_of};
+ghost use Rattle.call_line.specs.declared.line.Line.TheVariants as L;
+ghost use Rattle.calls.specs.Run.{afresh};
 ghost use Rattle.calls.specs.Runs.{Ran};
 
-use crate::say::{say_accepted, say_bad, say_offered, say_ok, say_refused, say_released};
-use call_line::line::{LineDigest, LineGap, LineHeartbeat, LineOffer, LinePair};
-use call_line::parse::{Parsed, parse};
-use group_view::view::{clear, note_digest, note_pair};
+use crate::say::{put_done, put_offered, put_refusal, put_released};
+use arrayvec::ArrayVec;
+use call_line::line::Line;
+use call_line::parse::parse;
+use decimal::text::put_bytes;
 use history::order::GroupOrder;
-use release::release::{Released, release_noted};
+use rules::call::{Gap, Heartbeat, Offer};
+use rules::view::{DigestRow, Pair};
+use std::marker::Model;
 
-fn size(s: &[u8]) -> usize
-    ensures { result ≡ length s.now }
-{
-    s.len()
+// The history, and the rows for its next releases. They have room for one row more than a release takes, so that it sees that there are
+// too many; the rows behind that one change nothing.
+#[derive(Drop)]
+pub struct Calls {
+    order: GroupOrder,
+    counted: ArrayVec<Pair, 257>,
+    digests: ArrayVec<DigestRow, 9>,
 }
 
-// Tells a caller the list's length.
-fn whole(out: &[u8; 4096]) -> usize
-    ensures { length out.now ≡ 4096 }
-{
-    size(out)
+impl Model for Calls {
+    ghost use Rattle.calls.specs.Run as R;
+    ghost use Rattle.calls.specs.Narrow.{Narrow};
+
+    ghost Value = { R.Calls };
+
+    ghost view = { λ calls. record { history = calls.order; counted = calls.counted.items; digests = calls.digests.items } };
+
+    ghost invariant = { λ calls. Narrow calls.order };
 }
 
-fn run_start(
-    store: &mut [u64; 6984],
-    view: &mut [u64; 1307],
-    timeout: u64,
-    out: &mut [u8; 4096],
-) -> usize
-    ensures { Ran (Some (starts timeout)) result store.old view.old out.old store.new view.new out.new }
-{
-    whole(out);
-    let fresh = GroupOrder::new(timeout);
-    let words = fresh.words;
-    *store = words;
-    clear(view);
-    say_ok(out, 0)
-}
-
-fn run_counted(
-    store: &mut [u64; 6984],
-    view: &mut [u64; 1307],
-    row: LinePair,
-    out: &mut [u8; 4096],
-) -> usize
-    ensures { Ran (Some (counts (pair_of row))) result store.old view.old out.old store.new view.new out.new }
-{
-    whole(out);
-    note_pair(view, row.row());
-    say_ok(out, 0)
-}
-
-fn run_digest(
-    store: &mut [u64; 6984],
-    view: &mut [u64; 1307],
-    row: LineDigest,
-    out: &mut [u8; 4096],
-) -> usize
-    ensures { Ran (Some (digests (digest_row_of row))) result store.old view.old out.old store.new view.new out.new }
-{
-    whole(out);
-    note_digest(view, row.row());
-    say_ok(out, 0)
-}
-
-fn run_offer(
-    store: &mut [u64; 6984],
-    view: &mut [u64; 1307],
-    o: LineOffer,
-    out: &mut [u8; 4096],
-) -> usize
-    ensures { Ran (Some (offers (offer_of o))) result store.old view.old out.old store.new view.new out.new }
-{
-    whole(out);
-    let answer = GroupOrder::offer(store, o.offer());
-    say_offered(out, 0, answer)
-}
-
-fn run_heartbeat(
-    store: &mut [u64; 6984],
-    view: &mut [u64; 1307],
-    h: LineHeartbeat,
-    out: &mut [u8; 4096],
-) -> usize
-    ensures { Ran (Some (heartbeats (heartbeat_of h))) result store.old view.old out.old store.new view.new out.new }
-{
-    whole(out);
-    let answer = GroupOrder::heartbeat(store, h.heartbeat());
-    say_accepted(out, 0, answer)
-}
-
-fn run_gap(
-    store: &mut [u64; 6984],
-    view: &mut [u64; 1307],
-    g: LineGap,
-    out: &mut [u8; 4096],
-) -> usize
-    ensures { Ran (Some (gaps (gap_of g))) result store.old view.old out.old store.new view.new out.new }
-{
-    whole(out);
-    let answer = GroupOrder::gap(store, g.gap());
-    say_accepted(out, 0, answer)
-}
-
-fn run_release(
-    store: &mut [u64; 6984],
-    view: &mut [u64; 1307],
-    time: u64,
-    out: &mut [u8; 4096],
-) -> usize
-    ensures { Ran (Some (releases time)) result store.old view.old out.old store.new view.new out.new }
-{
-    whole(out);
-    let mut places = [0u64; 256];
-    let answer = release_noted(store, view, time, &mut places);
-    match answer {
-        Released::Out(n) => {
-            let counts = GroupOrder::counts(store);
-            say_released(out, 0, &places[..n], counts)
+impl Calls {
+    // Before any line; the timeout is in nanoseconds.
+    pub fn new(timeout: u64) -> Calls
+        ensures { result ≡ afresh timeout }
+    {
+        Calls {
+            order: GroupOrder::new(timeout),
+            counted: ArrayVec::new(),
+            digests: ArrayVec::new(),
         }
-        Released::MalformedView => say_refused(out, 0, 9),
-        Released::ListTooShort => say_refused(out, 0, 5),
     }
-}
 
-fn run_bad(store: &mut [u64; 6984], view: &mut [u64; 1307], out: &mut [u8; 4096]) -> usize
-    ensures { Ran None result store.old view.old out.old store.new view.new out.new }
-{
-    whole(out);
-    say_bad(out, 0)
-}
-
-// Runs what a line spells: the words stand for the calls after it, and out's first bytes, as many as the answer says, are what it prints. A
-// bad line and a refused call leave every word of store and view.
-pub(crate) fn run_parsed(
-    store: &mut [u64; 6984],
-    view: &mut [u64; 1307],
-    parsed: Parsed,
-    out: &mut [u8; 4096],
-) -> usize
-    ensures { Ran (parsed_as parsed) result store.old view.old out.old store.new view.new out.new }
-{
-    match parsed {
-        Parsed::Timeout(t) => run_start(store, view, t, out),
-        Parsed::Counted(p) => run_counted(store, view, p, out),
-        Parsed::Digest(d) => run_digest(store, view, d, out),
-        Parsed::Offer(o) => run_offer(store, view, o, out),
-        Parsed::Heartbeat(h) => run_heartbeat(store, view, h, out),
-        Parsed::Gap(g) => run_gap(store, view, g, out),
-        Parsed::Release(t) => run_release(store, view, t, out),
-        Parsed::Bad => run_bad(store, view, out),
+    pub fn order(&self) -> &GroupOrder
+        ensures { result.now ≡ self.now.history }
+    {
+        &self.order
     }
-}
 
-// Runs a line, as `run_parsed` what it spells.
-pub fn run_line(
-    store: &mut [u64; 6984],
-    view: &mut [u64; 1307],
-    line: &[u8],
-    out: &mut [u8; 4096],
-) -> usize
-    ensures { Ran (line_of line.now) result store.old view.old out.old store.new view.new out.new }
-{
-    let parsed = parse(line);
-    run_parsed(store, view, parsed, out)
+    // Runs a line, and puts its answer, at most 3929 bytes, behind what the text holds, as far as it has room. A bad line changes
+    // nothing, and a refused call nothing of the history.
+    pub fn run_line<const N: usize>(&mut self, line: &[u8], text: &mut ArrayVec<u8, N>)
+        ensures { Ran N (line_of line.now) self.old self.new text.old.items text.new.items }
+    {
+        self.run(parse(line), text)
+    }
+
+    pub(crate) fn run<const N: usize>(&mut self, line: Option<Line>, text: &mut ArrayVec<u8, N>)
+        ensures { Ran N line self.old self.new text.old.items text.new.items }
+    {
+        match line {
+            Some(Line::Timeout(timeout)) => self.start(timeout, text),
+            Some(Line::Counted(row)) => self.count(row, text),
+            Some(Line::Digest(row)) => self.digest(row, text),
+            Some(Line::Offer(offer)) => self.offer(offer, text),
+            Some(Line::Heartbeat(heartbeat)) => self.heartbeat(heartbeat, text),
+            Some(Line::Gap(gap)) => self.gap(gap, text),
+            Some(Line::Release(time)) => self.release(time, text),
+            None => put_bytes(text, b"bad"),
+        }
+    }
+
+    fn start<const N: usize>(&mut self, timeout: u64, text: &mut ArrayVec<u8, N>)
+        ensures { Ran N (Some (L.Timeout timeout)) self.old self.new text.old.items text.new.items }
+    {
+        self.order = GroupOrder::new(timeout);
+        self.counted.clear();
+        self.digests.clear();
+        put_bytes(text, b"ok")
+    }
+
+    fn count<const N: usize>(&mut self, row: Pair, text: &mut ArrayVec<u8, N>)
+        ensures { Ran N (Some (L.Counted row)) self.old self.new text.old.items text.new.items }
+    {
+        let _ = self.counted.try_push(row);
+        put_bytes(text, b"ok")
+    }
+
+    fn digest<const N: usize>(&mut self, row: DigestRow, text: &mut ArrayVec<u8, N>)
+        ensures { Ran N (Some (L.Digest row)) self.old self.new text.old.items text.new.items }
+    {
+        let _ = self.digests.try_push(row);
+        put_bytes(text, b"ok")
+    }
+
+    fn offer<const N: usize>(&mut self, offer: Offer<u32>, text: &mut ArrayVec<u8, N>)
+        ensures { Ran N (Some (L.Offer offer)) self.old self.new text.old.items text.new.items }
+    {
+        let answer = self.order.offer(offer);
+        put_offered(text, answer)
+    }
+
+    fn heartbeat<const N: usize>(&mut self, heartbeat: Heartbeat, text: &mut ArrayVec<u8, N>)
+        ensures { Ran N (Some (L.Heartbeat heartbeat)) self.old self.new text.old.items text.new.items }
+    {
+        let answer = self.order.heartbeat(heartbeat);
+        put_done(text, answer)
+    }
+
+    fn gap<const N: usize>(&mut self, gap: Gap, text: &mut ArrayVec<u8, N>)
+        ensures { Ran N (Some (L.Gap gap)) self.old self.new text.old.items text.new.items }
+    {
+        let answer = self.order.gap(gap);
+        put_done(text, answer)
+    }
+
+    fn release<const N: usize>(&mut self, time: u64, text: &mut ArrayVec<u8, N>)
+        ensures { Ran N (Some (L.Release time)) self.old self.new text.old.items text.new.items }
+    {
+        let mut places = [0u64; 256];
+        let counted = self.counted.as_slice();
+        let digests = self.digests.as_slice();
+        match self.order.release(counted, digests, time, &mut places) {
+            Ok(n) => put_released(text, &places[..n], self.order.counts()),
+            Err(refusal) => put_refusal(text, refusal),
+        }
+    }
 }

@@ -1,108 +1,88 @@
-// What a line prints, into a lent list of bytes: each function says where the next byte goes.
+// What a line prints, put behind what a text holds already.
 ghost use Rattle.std.specs.Prelude.{◌∷◌, ◌++◌};
 ghost use Rattle.decimal.specs.Print.{digits_of};
-ghost use Rattle.offers.specs.Calls.{offered_as, told_as};
-ghost use Rattle.readings.specs.Counts.{counts_as};
-ghost use Rattle.calls.specs.Run.{bad, ok, refused_text, counts_text, offer_text, done_text};
+ghost use Rattle.refusals.specs.Refusal.{answer_as, number_of};
+ghost use Rattle.calls.specs.Run.{refused_text, counts_text, offer_text, done_text};
 ghost use Rattle.calls.specs.Said.{Said, place_text, places_text};
 
-use decimal::{put_bytes, put_unsigned};
-use offers::call::{Accepted, Offered};
-use readings::readings::ReleaseCounts;
+use arrayvec::ArrayVec;
+use decimal::text::{put_bytes, put_unsigned};
+use refusals::Refusal;
+use rules::call::Fate;
+use rules::state::ReleaseCounts;
 
 // A space and the number.
-fn put_spaced(out: &mut [u8], at: usize, n: u64) -> usize
-    ensures { Said at (32 ∷ digits_of n) result out.old out.new }
+fn put_spaced<const N: usize>(text: &mut ArrayVec<u8, N>, n: u64)
+    ensures { Said N (32 ∷ digits_of n) text.old.items text.new.items }
 {
-    let next = put_bytes(out, at, b" ");
-    put_unsigned(out, next, n)
+    put_bytes(text, b" ");
+    put_unsigned(text, n);
 }
 
-pub(crate) fn say_bad(out: &mut [u8], at: usize) -> usize
-    ensures { Said at bad result out.old out.new }
+pub fn put_refusal<const N: usize>(text: &mut ArrayVec<u8, N>, refusal: Refusal)
+    ensures { Said N (refused_text (number_of refusal)) text.old.items text.new.items }
 {
-    put_bytes(out, at, b"bad")
+    put_bytes(text, b"refused");
+    put_spaced(text, refusal.number());
 }
 
-pub(crate) fn say_ok(out: &mut [u8], at: usize) -> usize
-    ensures { Said at ok result out.old out.new }
+pub fn put_offered<const N: usize>(text: &mut ArrayVec<u8, N>, answer: Result<Fate, Refusal>)
+    ensures { Said N (offer_text (answer_as answer)) text.old.items text.new.items }
 {
-    put_bytes(out, at, b"ok")
-}
-
-pub(crate) fn say_refused(out: &mut [u8], at: usize, n: u64) -> usize
-    ensures { Said at (refused_text n) result out.old out.new }
-{
-    let next = put_bytes(out, at, b"refused");
-    put_spaced(out, next, n)
-}
-
-pub(crate) fn say_offered(out: &mut [u8], at: usize, o: Offered) -> usize
-    ensures { Said at (offer_text (offered_as o)) result out.old out.new }
-{
-    match o {
-        Offered::Stored => put_bytes(out, at, b"stored"),
-        Offered::Joined => put_bytes(out, at, b"joined"),
-        Offered::Late => put_bytes(out, at, b"late"),
-        Offered::ReaderAboveSeven => say_refused(out, at, 1),
-        Offered::NinthGroup => say_refused(out, at, 2),
-        Offered::PairOver32 => say_refused(out, at, 3),
-        Offered::Full => say_refused(out, at, 4),
+    match answer {
+        Ok(Fate::Stored) => put_bytes(text, b"stored"),
+        Ok(Fate::Joined) => put_bytes(text, b"joined"),
+        Ok(Fate::Late) => put_bytes(text, b"late"),
+        Err(refusal) => put_refusal(text, refusal),
     }
 }
 
-pub(crate) fn say_accepted(out: &mut [u8], at: usize, a: Accepted) -> usize
-    ensures { Said at (done_text (told_as a)) result out.old out.new }
+pub fn put_done<const N: usize>(text: &mut ArrayVec<u8, N>, answer: Result<(), Refusal>)
+    ensures { Said N (done_text (answer_as answer)) text.old.items text.new.items }
 {
-    match a {
-        Accepted::Done => say_ok(out, at),
-        Accepted::ReaderAboveSeven => say_refused(out, at, 1),
-        Accepted::NinthGroup => say_refused(out, at, 2),
-        Accepted::PairOver32 => say_refused(out, at, 3),
+    match answer {
+        Ok(()) => put_bytes(text, b"ok"),
+        Err(refusal) => put_refusal(text, refusal),
     }
 }
 
-fn say_counts(out: &mut [u8], at: usize, c: ReleaseCounts) -> usize
-    ensures { Said at (counts_text (counts_as c)) result out.old out.new }
+pub fn put_counts<const N: usize>(text: &mut ArrayVec<u8, N>, counts: ReleaseCounts)
+    ensures { Said N (counts_text counts) text.old.items text.new.items }
 {
-    let bar = put_bytes(out, at, b" |");
-    let skipped = put_spaced(out, bar, c.skipped_after_timeout);
-    let incomplete = put_spaced(out, skipped, c.incomplete_sets);
-    let discarded = put_spaced(out, incomplete, c.discarded_samples);
-    put_spaced(out, discarded, c.late_samples)
+    put_bytes(text, b" |");
+    put_spaced(text, counts.skipped_after_timeout);
+    put_spaced(text, counts.incomplete_sets);
+    put_spaced(text, counts.discarded_samples);
+    put_spaced(text, counts.late_samples);
 }
 
 // The sample of a place, reader · 2^32 + item.
-fn say_sample(out: &mut [u8], at: usize, place: u64) -> usize
-    ensures { Said at (place_text place) result out.old out.new }
+fn put_sample<const N: usize>(text: &mut ArrayVec<u8, N>, place: u64)
+    ensures { Said N (place_text place) text.old.items text.new.items }
 {
-    let reader = put_spaced(out, at, place / 4294967296);
-    let colon = put_bytes(out, reader, b":");
-    put_unsigned(out, colon, place % 4294967296)
+    put_spaced(text, place / 4294967296);
+    put_bytes(text, b":");
+    put_unsigned(text, place % 4294967296);
 }
 
-fn say_samples(out: &mut [u8], at: usize, places: &[u64]) -> usize
-    ensures { Said at (places_text places.now) result out.old out.new }
+// `out`, and the samples of the places.
+fn put_samples<const N: usize>(text: &mut ArrayVec<u8, N>, places: &[u64])
+    ensures { Said N (111 ∷ 117 ∷ 116 ∷ places_text places.now) text.old.items text.new.items }
 {
-    let mut next = at;
-    let mut i: usize = 0;
-    while i < places.len() {
-        next = say_sample(out, next, places[i]);
-        i += 1;
+    put_bytes(text, b"out");
+    for place in places {
+        put_sample(text, *place);
     }
-    next
 }
 
 // The answer of a release: the places written, and the counts.
-pub(crate) fn say_released(
-    out: &mut [u8],
-    at: usize,
+pub fn put_released<const N: usize>(
+    text: &mut ArrayVec<u8, N>,
     places: &[u64],
     counts: ReleaseCounts,
-) -> usize
-    ensures { Said at (111 ∷ 117 ∷ 116 ∷ places_text places.now ++ counts_text (counts_as counts)) result out.old out.new }
+)
+    ensures { Said N (111 ∷ 117 ∷ 116 ∷ places_text places.now ++ counts_text counts) text.old.items text.new.items }
 {
-    let first = put_bytes(out, at, b"out");
-    let bar = say_samples(out, first, places);
-    say_counts(out, bar, counts)
+    put_samples(text, places);
+    put_counts(text, counts);
 }

@@ -11,7 +11,7 @@ use lib.Seq.{paste}
 use lib.Dec.{leb, eqb}
 use borrow.Author.Tests.{lt-ltb, le-ltb, leb-false, eqb-false}
 use Rattle.laws.specs.Answer.{refused, answered}
-use Rattle.laws.specs.Lists.{keep, count}
+use Rattle.laws.specs.Lists.{filter, count}
 use Rattle.laws.proofs.Lists.{length_split}
 use Rattle.coherent_hold.specs.Gate.{Item, ends, member_mark, is_member, leaves, Effect, passed, set_is_complete, held_back, ended, followed, after, gated, is_full, gate, words_of, written, left_by, gate_call, change_as, hold_as, gated_as, call_as, is_end}
 use Rattle.coherent_hold.specs.declared.items.Change.{Change}
@@ -29,14 +29,14 @@ pub passed_other : (i : Item) (t : Change) → i.kind ≡ change_as t → (passe
 passed_other i t e = rw (e, ends_not t)
 
 -- a place is free once the members that leave are out
-pub place_free : (l : List Item) (i : Item) → is_full l i ≡ false → length l ≤ 64 → length (keep (λ h. not (leaves i.writer i.set h)) l) < 64
+pub place_free : (l : List Item) (i : Item) → is_full l i ≡ false → length l ≤ 64 → length (filter (λ h. not (leaves i.writer i.set h)) l) < 64
 unfolding is_full count
 place_free l i f b =
-    let n : ℕ = length (keep (λ h. leaves i.writer i.set h) l) in
-    let all : length l ≡ n + length (keep (λ h. not (leaves i.writer i.set h)) l) = length_split (λ h. leaves i.writer i.set h) l in
-    (elim (leb 64 (length l)) as (λ t. leb 64 (length l) ≡ t → t && eqb n 0 ≡ false → length (keep (λ h. not (leaves i.writer i.set h)) l) < 64) [
-      | true ↦ λ e g. omega (arith, all, b, eqb-false n 0 g)
-      | false ↦ λ e g. omega (arith, all, leb-false 64 (length l) e)
+    let n : ℕ = length (filter (λ h. leaves i.writer i.set h) l) in
+    let parts : length l ≡ n + length (filter (λ h. not (leaves i.writer i.set h)) l) = length_split (λ h. leaves i.writer i.set h) l in
+    (elim (leb 64 (length l)) as (λ t. leb 64 (length l) ≡ t → t && eqb n 0 ≡ false → length (filter (λ h. not (leaves i.writer i.set h)) l) < 64) [
+      | true ↦ λ e g. omega (arith, parts, b, eqb-false n 0 g)
+      | false ↦ λ e g. omega (arith, parts, leb-false 64 (length l) e)
     ]) refl f
 
 module _ (l : List Item) (o : List ℕ) (h : CoherentHold) where
@@ -46,8 +46,8 @@ module _ (l : List Item) (o : List ℕ) (h : CoherentHold) where
   left_is r m e p q w = λ i. record { answer = answered (p i); hold = q i; list = w i }
 
   -- a member of a set
-  pub held_is : (i : Item) (n : ℕ) (m : List ℕ) → is_full l i ≡ false → n ≡ length (keep (λ h. leaves i.writer i.set h) l) → hold_as h ≡ keep (λ h. not (leaves i.writer i.set h)) l ++ (i ∷ [])
-      → m ≡ written (keep (λ h. leaves i.writer i.set h) l) o → call_as (Ok (Passed n)) h m ≡ left_by l o (cond (is_full l i) (refused 7) (answered (held_back i l)))
+  pub held_is : (i : Item) (n : ℕ) (m : List ℕ) → is_full l i ≡ false → n ≡ length (filter (λ h. leaves i.writer i.set h) l) → hold_as h ≡ filter (λ h. not (leaves i.writer i.set h)) l ++ (i ∷ [])
+      → m ≡ written (filter (λ h. leaves i.writer i.set h) l) o → call_as (Ok (Passed n)) h m ≡ left_by l o (cond (is_full l i) (refused 7) (answered (held_back i l)))
   unfolding held_back
   held_is i n m f c q w = rw f (left_is (Passed n) m (held_back i l) (ap (λ y. (y, None)) c) q w)
 
@@ -92,6 +92,6 @@ module _ (l : List Item) (i : Item) (o : List ℕ) where
     gate_member z e = roomy true ∙ rw e
 
     pub gate_all : member_mark i ≡ None
-        → gate_call l i true o ≡ left_by l o (answered (after i.kind i (keep (λ h. leaves i.writer None h) l) (keep (λ h. not (leaves i.writer None h)) l)))
+        → gate_call l i true o ≡ left_by l o (answered (after i.kind i (filter (λ h. leaves i.writer None h) l) (filter (λ h. not (leaves i.writer None h)) l)))
     unfolding gated is_member
     gate_all e = roomy true ∙ rw e

@@ -16,7 +16,7 @@ use Rattle.std.specs.Cmp.Lexicographic.{pointwise, bytes_decides}
 use Rattle.std.proofs.Common.{length}
 use Rattle.std.proofs.lemmas.Bool.Decides.{nat_tests}
 use Rattle.laws.specs.Whole.{eq_z}
-use Rattle.laws.specs.Lists.{keep, count}
+use Rattle.laws.specs.Lists.{filter, count}
 use Rattle.guids.specs.Guid.{Guid, same_guid}
 use Rattle.guids.proofs.Guids.{same_refl, same_eq}
 use Rattle.laws.proofs.Lists.{true_or_false, count_map, keep_map, length_keep}
@@ -41,25 +41,20 @@ same_set None z = refl
 same_set (Some x) z = same_int x z
 
 module _ {A : Type 0} (p : A → Bool) where
-  filter_keep : (l : List A) → filter p l ≡ keep p l
-  unfolding keep
-  filter_keep [] = refl
-  filter_keep (x ∷ l) = ap (λ m. cond (p x) (x ∷ m) m) (filter_keep l)
-
   -- none passes
   none_count : (l : List A) → eqb (count p l) 0 ≡ not (list_any p l)
-  unfolding count keep
+  unfolding count
   none_count [] = refl
   none_count (x ∷ l) =
-      (elim (p x) as (λ b. eqb (length (cond b (x ∷ keep p l) (keep p l))) 0 ≡ not (b || list_any p l)) [ true ↦ eqb-suc-zero (length (keep p l)) | false ↦ none_count l ])
+      (elim (p x) as (λ b. eqb (length (cond b (x ∷ filter p l) (filter p l))) 0 ≡ not (b || list_any p l)) [ true ↦ eqb-suc-zero (length (filter p l)) | false ↦ none_count l ])
 
 -- none of the members leaves
 none_leaves : (w : Guid) (s : Option ℤ) (l : List Member) → eqb (count (λ h. leaves w s h) (map (λ m. member_as m) l)) 0 ≡ not (list_any (λ m. leaves w s (member_as m)) l)
 none_leaves w s l = ap (λ n. eqb n 0) (count_map (λ h. leaves w s h) (λ m. member_as m) l) ∙ none_count (λ m. leaves w s (member_as m)) l
 
 -- the members that pass, as items
-pub kept_members : (p : Item → Bool) (l : List Member) → map (λ m. member_as m) (filter (λ m. p (member_as m)) l) ≡ keep p (map (λ m. member_as m) l)
-kept_members p l = ap (map (λ m. member_as m)) (filter_keep (λ m. p (member_as m)) l) ∙ sym (keep_map p (λ m. member_as m) l)
+pub kept_members : (p : Item → Bool) (l : List Member) → map (λ m. member_as m) (filter (λ m. p (member_as m)) l) ≡ filter p (map (λ m. member_as m) l)
+kept_members p l = sym (keep_map p (λ m. member_as m) l)
 
 -- 64 are held: full where none leaves
 module _ (l : List Member) (m : Member) where
@@ -75,8 +70,8 @@ module _ (l : List Member) (m : Member) where
 pub as_many : (r : List Member) (x : List Item) → map (λ m. member_as m) r ≡ x → length r ≡ length x
 as_many r x e = sym (length-map r (λ m. member_as m)) ∙ ap length e
 
-pub no_more : (r : List Member) (p : Item → Bool) (l : List Item) → map (λ m. member_as m) r ≡ keep p l → length r ≤ length l
-no_more r p l e = omega (arith, as_many r (keep p l) e, length_keep p l)
+pub no_more : (r : List Member) (p : Item → Bool) (l : List Item) → map (λ m. member_as m) r ≡ filter p l → length r ≤ length l
+no_more r p l e = omega (arith, as_many r (filter p l) e, length_keep p l)
 
 -- the items of a slice of those members
 pub shown : (d r : List Member) (x : List Item) → d ≡ r → map (λ m. member_as m) r ≡ x → map (λ m. member_as m) d ≡ x

@@ -6,7 +6,7 @@ use Rattle.std.proofs.Common.{of_z}
 use Rattle.laws.specs.Answer.{Answer, refused, answered}
 use Rattle.laws.specs.Whole.{eq_z}
 use Rattle.laws.specs.Bytes.{number_of}
-use Rattle.laws.specs.Lists.{keep, count}
+use Rattle.laws.specs.Lists.{filter, count}
 use Rattle.guids.specs.Guid.{Guid, same_guid}
 use Rattle.refusals.specs.declared.Refusal.{Refusal}
 use Rattle.refusals.specs.Refusal.{number_of as refusal_number}
@@ -88,9 +88,9 @@ passed i l = record { out = cond (ends i.kind) [] (i ∷ []); incomplete = None;
 -- on: a member releases its writer's other sets, unchecked, and is held
 unfoldable pub held_back : Item → List Item → Effect
 held_back i l = record {
-  out = keep (λ h. leaves i.writer i.set h) l;
+  out = filter (λ h. leaves i.writer i.set h) l;
   incomplete = None;
-  hold = keep (λ h. not (leaves i.writer i.set h)) l ++ (i ∷ []);
+  hold = filter (λ h. not (leaves i.writer i.set h)) l ++ (i ∷ []);
 }
 
 -- an end is judged; any other item follows all of its writer's held ones, unchecked
@@ -110,7 +110,7 @@ unfoldable pub gated : Bool → Item → List Item → Effect
 gated a i l =
     cond a
     (cond (is_member i) (held_back i l)
-    (after i.kind i (keep (λ h. leaves i.writer None h) l) (keep (λ h. not (leaves i.writer None h)) l)))
+    (after i.kind i (filter (λ h. leaves i.writer None h) l) (filter (λ h. not (leaves i.writer None h)) l)))
     (passed i l)
 
 -- 64 are held, of which a member of the set releases none
@@ -199,9 +199,9 @@ abbrev pub gated_as : Gated → ℕ × Option ℕ
 gated_as (Passed n) = (n, None)
 gated_as (Incomplete n) = (0, Some n)
 
-abbrev pub answer_as : Result Gated Refusal → Answer (ℕ × Option ℕ)
-answer_as (Ok g) = answered (gated_as g)
-answer_as (Err e) = refused (refusal_number e)
+abbrev pub gate_answer_as : Result Gated Refusal → Answer (ℕ × Option ℕ)
+gate_answer_as (Ok g) = answered (gated_as g)
+gate_answer_as (Err e) = refused (refusal_number e)
 
 abbrev pub call_as : Result Gated Refusal → CoherentHold → List ℕ → Call
-call_as r h o = record { answer = answer_as r; hold = hold_as h; list = o }
+call_as r h o = record { answer = gate_answer_as r; hold = hold_as h; list = o }

@@ -1,8 +1,8 @@
 // The coherent-set gate of one reader (DDS 1.4 §2.2.3.6; DDSI-RTPS 2.5 §8.7.6).
 ghost use Rattle.std.specs.Prelude.{◌≡◌, ◌+◌, ◌*◌, ◌≤◌, not, cond, [], map, length};
 ghost use Rattle.laws.specs.Answer.{refused, answered, Kept};
-ghost use Rattle.laws.specs.Lists.{keep};
-ghost use Rattle.coherent_hold.specs.Gate.{leaves, set_is_complete, passed, held_back, after, is_full, written, left_by, gate_call, item_as, member_as, hold_as, gated_as, answer_as, call_as};
+ghost use Rattle.laws.specs.Lists.{filter};
+ghost use Rattle.coherent_hold.specs.Gate.{leaves, set_is_complete, passed, held_back, after, is_full, written, left_by, gate_call, item_as, member_as, hold_as, gated_as, gate_answer_as, call_as};
 
 use crate::hold::CoherentHold;
 use crate::items::{CoherentSetEnd, Item, Kind, Member};
@@ -28,7 +28,7 @@ impl CoherentHold {
         out: &mut [u64],
     ) -> Result<Gated, Refusal>
         ensures is { call_as result self.new out.new ≡ gate_call (hold_as self.old) (item_as item) coherent_access out.old }
-        ensures kept { Kept (answer_as result) self.old self.new }
+        ensures kept { Kept (gate_answer_as result) self.old self.new }
     {
         if out.len() / 5 <= self.len() {
             return Err(Refusal::ListTooShort);
@@ -46,7 +46,7 @@ impl CoherentHold {
     fn hold_back(&mut self, member: Member, out: &mut [u64]) -> Result<Gated, Refusal>
         requires { length (hold_as self.old) * 5 ≤ length out.old }
         ensures is { call_as result self.new out.new ≡ left_by (hold_as self.old) out.old (cond (is_full (hold_as self.old) (member_as member)) (refused 7) (answered (held_back (member_as member) (hold_as self.old)))) }
-        ensures kept { Kept (answer_as result) self.old self.new }
+        ensures kept { Kept (gate_answer_as result) self.old self.new }
     {
         if self.is_full_for(member) {
             return Err(Refusal::MembersFull);
@@ -60,7 +60,7 @@ impl CoherentHold {
     // An end, or an item outside any set, ends all of its writer's.
     fn release_all(&mut self, item: Item, out: &mut [u64]) -> Gated
         requires { length (hold_as self.old) * 5 + 5 ≤ length out.old }
-        ensures { call_as (Ok result) self.new out.new ≡ left_by (hold_as self.old) out.old (answered (after (item_as item).kind (item_as item) (keep (λ h. leaves (item_as item).writer None h) (hold_as self.old)) (keep (λ h. not (leaves (item_as item).writer None h)) (hold_as self.old)))) }
+        ensures { call_as (Ok result) self.new out.new ≡ left_by (hold_as self.old) out.old (answered (after (item_as item).kind (item_as item) (filter (λ h. leaves (item_as item).writer None h) (hold_as self.old)) (filter (λ h. not (leaves (item_as item).writer None h)) (hold_as self.old)))) }
     {
         let released = self.release(item.writer, None);
         let n = released.len();

@@ -1,7 +1,7 @@
 // The members of one reader's coherent sets that are held back until their set ends.
 ghost use Rattle.std.specs.Prelude.{◌≡◌, ◌≤◌, not, eqb, map, length};
 ghost use Rattle.std.specs.List.{list_any};
-ghost use Rattle.laws.specs.Lists.{keep};
+ghost use Rattle.laws.specs.Lists.{filter};
 ghost use Rattle.coherent_hold.specs.Gate.{leaves, is_full, member_as, hold_as, fresh_hold};
 
 use crate::items::Member;
@@ -53,8 +53,8 @@ impl CoherentHold {
 
     // Takes out the writer's members, but for those of `new_set`. Two parameters, as the source has them: a struct for them would be no plainer.
     pub(crate) fn release(&mut self, writer: [u8; 16], new_set: Option<i64>) -> Members
-        ensures released { map (λ m. member_as m) result.items ≡ keep (λ h. leaves writer new_set h) (hold_as self.old) }
-        ensures stay { hold_as self.new ≡ keep (λ h. not (leaves writer new_set h)) (hold_as self.old) }
+        ensures released { map (λ m. member_as m) result.items ≡ filter (λ h. leaves writer new_set h) (hold_as self.old) }
+        ensures stay { hold_as self.new ≡ filter (λ h. not (leaves writer new_set h)) (hold_as self.old) }
     {
         let mut released = Members::new();
         for member in self.held.iter() {

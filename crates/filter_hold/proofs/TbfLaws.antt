@@ -23,7 +23,7 @@ use Rattle.std.specs.List.{filter, list_any, prefix_len}
 use Rattle.std.specs.Ordering.{is_some_and, is_le, partial_ordering_then, int_cmp, nat_cmp}
 use Rattle.std.proofs.lemmas.Bool.Decides.{nat_tests}
 use Rattle.laws.specs.Whole.{eq_z}
-use Rattle.laws.specs.Lists.{keep, any, index_of}
+use Rattle.laws.specs.Lists.{filter, list_any, index_of}
 use Rattle.laws.proofs.Lists.{keep_append, keep_fewer, length_keep}
 use Rattle.filter_hold.specs.declared.tbf.Time.{Time}
 use Rattle.filter_hold.specs.declared.tbf.Held.{Held}
@@ -87,21 +87,15 @@ before a b =
 -- ---- lists
 
 module _ {A : Type 0} (p : A → Bool) where
-  pub filter_keep : (l : List A) → filter p l ≡ keep p l
-  unfolding keep
-  filter_keep [] = refl
-  filter_keep (x ∷ l) = ap (λ m. cond (p x) (x ∷ m) m) (filter_keep l)
-
   -- one more is tested
-  pub keep_next : (l : List A) (i : ℕ) (d : A) → i < length l → keep p (take (i + 1) l) ≡ keep p (take i l) ++ cond (p (get_or l i d)) (get_or l i d ∷ []) []
-  unfolding keep
+  pub keep_next : (l : List A) (i : ℕ) (d : A) → i < length l → filter p (take (i + 1) l) ≡ filter p (take i l) ++ cond (p (get_or l i d)) (get_or l i d ∷ []) []
   keep_next l i d h =
-      ap (λ j. keep p (take j l)) (add-one i)
-      ∙ ap (λ x. keep p x) (take-suc l i d h)
+      ap (λ j. filter p (take j l)) (add-one i)
+      ∙ ap (λ x. filter p x) (take-suc l i d h)
       ∙ keep_append p (take i l) (get_or l i d ∷ [])
 
-pub held_any : (k : ℕ) (l : List Held) → list_any (λ x. x.instance == k) l ≡ any (λ x. is_of k x) l
-unfolding any is_of
+pub held_any : (k : ℕ) (l : List Held) → list_any (λ x. x.instance == k) l ≡ list_any (λ x. is_of k x) l
+unfolding is_of
 held_any k [] = refl
 held_any k (x ∷ l) = let e : (x.instance == k) ≡ eqb k x.instance = grind (arith, nat_tests) in rw (e, held_any k l)
 
@@ -111,20 +105,20 @@ pub full_at : (n : ℕ) → n ≤ 32 → (n == 32) ≡ leb 32 n
 full_at n h = grind (arith, nat_tests)
 
 -- a replacement isn't refused
-pub replaces : (k : ℕ) (l : List Held) → list_any (λ x. x.instance == k) l ≡ true → not (any (λ x. is_of k x) l) && leb 32 (length l) ≡ false
+pub replaces : (k : ℕ) (l : List Held) → list_any (λ x. x.instance == k) l ≡ true → not (list_any (λ x. is_of k x) l) && leb 32 (length l) ≡ false
 replaces k l e = ap (λ b. not b && leb 32 (length l)) (sym (held_any k l) ∙ e)
 
 -- nor a sample where fewer are held
-pub few : (k : ℕ) (l : List Held) → length l ≤ 32 → (length l == 32) ≡ false → not (any (λ x. is_of k x) l) && leb 32 (length l) ≡ false
+pub few : (k : ℕ) (l : List Held) → length l ≤ 32 → (length l == 32) ≡ false → not (list_any (λ x. is_of k x) l) && leb 32 (length l) ≡ false
 few k l h e =
-    ap (λ b. not (any (λ x. is_of k x) l) && b) (sym (full_at (length l) h) ∙ e)
-    ∙ elim (any (λ x. is_of k x) l) as (λ b. not b && false ≡ false) [ true ↦ refl | false ↦ refl ]
+    ap (λ b. not (list_any (λ x. is_of k x) l) && b) (sym (full_at (length l) h) ∙ e)
+    ∙ elim (list_any (λ x. is_of k x) l) as (λ b. not b && false ≡ false) [ true ↦ refl | false ↦ refl ]
 
 -- one that isn't refused has room
-pub room : (k : ℕ) (l : List Held) → length l ≤ 32 → not (any (λ x. is_of k x) l) && leb 32 (length l) ≡ false → length (supersede k l) < 32
+pub room : (k : ℕ) (l : List Held) → length l ≤ 32 → not (list_any (λ x. is_of k x) l) && leb 32 (length l) ≡ false → length (supersede k l) < 32
 unfolding supersede
 room k l h =
-    (elim (any (λ x. is_of k x) l) as (λ b. any (λ x. is_of k x) l ≡ b → not b && leb 32 (length l) ≡ false → length (keep (λ x. not (is_of k x)) l) < 32) [
+    (elim (list_any (λ x. is_of k x) l) as (λ b. list_any (λ x. is_of k x) l ≡ b → not b && leb 32 (length l) ≡ false → length (filter (λ x. not (is_of k x)) l) < 32) [
       | true ↦ λ e t. omega (arith, keep_fewer (λ x. is_of k x) l e)
       | false ↦ λ e t. omega (arith, length_keep (λ x. not (is_of k x)) l, leb-false 32 (length l) t)
     ]) refl

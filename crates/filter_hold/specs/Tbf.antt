@@ -4,7 +4,7 @@ use Rattle.std.specs.Prelude.{ℕ, ◌+◌, ◌*◌, ◌/◌, ◌%◌, min, Bool
 use Rattle.std.specs.Int.Signed.{lt_z}
 use Rattle.laws.specs.Answer.{Answer, refused, answered}
 use Rattle.laws.specs.Whole.{eq_z}
-use Rattle.laws.specs.Lists.{keep, all, any, index_of}
+use Rattle.laws.specs.Lists.{filter, list_all, list_any, index_of}
 use Rattle.filter_hold.specs.declared.tbf.Time.{Time}
 use Rattle.filter_hold.specs.declared.tbf.Separation.{Separation}
 use Rattle.filter_hold.specs.declared.tbf.Held.{Held}
@@ -42,7 +42,7 @@ follows k x = ltb k x.instance
 -- each instance is larger than those before it
 unfoldable pub rising : List Held → Bool
 rising [] = true
-rising (x ∷ l) = all (λ y. follows x.instance y) l && rising l
+rising (x ∷ l) = list_all (λ y. follows x.instance y) l && rising l
 
 -- before the first of a larger instance
 unfoldable pub insert : Held → List Held → List Held
@@ -50,22 +50,22 @@ insert h l = take (index_of (λ x. follows h.instance x) l) l ++ (h ∷ drop (in
 
 -- a sample of the instance passed the filter: the held one is older
 unfoldable pub supersede : ℕ → List Held → List Held
-supersede k l = keep (λ x. not (is_of k x)) l
+supersede k l = filter (λ x. not (is_of k x)) l
 
 -- hold: 10, separation nanoseconds of 1,000,000,000 or more; 8, a new instance while 32 are held;
 -- else held in place of the instance's earlier one
 unfoldable pub hold : ℕ → ℕ → Time → Separation → List Held → Answer (Unit {0}) × List Held
 hold k i arrival s l =
     cond (leb 1000000000 s.nanosec) (refused 10, l)
-    (cond (not (any (λ x. is_of k x) l) && leb 32 (length l)) (refused 8, l)
+    (cond (not (list_any (λ x. is_of k x) l) && leb 32 (length l)) (refused 8, l)
     (answered tt, insert (record { instance = k; item = i; due = time_after arrival s }) (supersede k l)))
 
 -- due at or before a time, and the others
 unfoldable pub due_at : Time → List Held → List Held
-due_at t l = keep (λ x. not_after x.due t) l
+due_at t l = filter (λ x. not_after x.due t) l
 
 unfoldable pub not_due_at : Time → List Held → List Held
-not_due_at t l = keep (λ x. not (not_after x.due t)) l
+not_due_at t l = filter (λ x. not (not_after x.due t)) l
 
 -- a sample's two words: instance, item
 unfoldable pub words : List Held → List ℕ

@@ -8,7 +8,7 @@ use lib.IntN.{ℤ}
 use lib.Dec.{ltb, leb, eqb}
 use lib.ListN.{length}
 use Rattle.laws.specs.Answer.{Answer, refused, answered}
-use Rattle.laws.specs.Lists.{keep, all, count}
+use Rattle.laws.specs.Lists.{filter, list_all, count}
 use Rattle.guids.specs.Guid.{Guid, same_guid}
 use Rattle.laws.proofs.Lists.{and_true, and_left, and_right, all_keep, all_both, not_both}
 use Rattle.coherent_hold.specs.Gate.{Kind, is_sample, is_lifecycle, is_end, Item, Effect, member_mark, is_member, leaves, same_mark, first_mark, count_is, passed, held_back, ended, followed, after, gated, hold_as, member_as}
@@ -73,13 +73,13 @@ put_same : (b : Bool) (i : Item) (l m : List Item) → put_first b (sample_of i)
 put_same true i l m = refl
 put_same false i l m = refl
 
-release_same : (w : Guid) (n : Option ℤ) (l : List Item) → all (λ i. is_member i) l ≡ true → release w n (samples l) ≡ (samples (keep (λ h. leaves w n h) l), samples (keep (λ h. not (leaves w n h)) l))
-unfolding release keep all
+release_same : (w : Guid) (n : Option ℤ) (l : List Item) → list_all (λ i. is_member i) l ≡ true → release w n (samples l) ≡ (samples (filter (λ h. leaves w n h) l), samples (filter (λ h. not (leaves w n h)) l))
+unfolding release
 release_same w n [] h = refl
 release_same w n (i ∷ l) h =
     ap (λ b. put_first b (sample_of i) (release w n (samples l))) (leaves_same w n i (and_left (is_member i) _ h))
     ∙ ap (λ p. put_first (leaves w n i) (sample_of i) p) (release_same w n l (and_right (is_member i) _ h))
-    ∙ put_same (leaves w n i) i (keep (λ h. leaves w n h) l) (keep (λ h. not (leaves w n h)) l)
+    ∙ put_same (leaves w n i) i (filter (λ h. leaves w n h) l) (filter (λ h. not (leaves w n h)) l)
 
 -- ---- one call
 
@@ -99,15 +99,14 @@ numbers_same n g None o = refl
 numbers_same n g (Some z) None = refl
 numbers_same n g (Some z) (Some y) = refl
 
-first_same : (l : List Item) (o : Option ℤ) → all (λ i. is_member i) l ≡ true → numbers_agree (length (samples l)) (first_member (samples l)) o ≡ count_is (length l) (first_mark l) o
-unfolding all
+first_same : (l : List Item) (o : Option ℤ) → list_all (λ i. is_member i) l ≡ true → numbers_agree (length (samples l)) (first_member (samples l)) o ≡ count_is (length l) (first_mark l) o
 first_same [] o h = refl
 first_same (i ∷ l) o h =
     ap (λ n. numbers_agree n (coherent_member (sample_of i)) o) (samples_length (i ∷ l))
     ∙ ap (λ u. numbers_agree (length (i ∷ l)) u o) (member_same i ∙ ap (λ s. member_of i.writer s) (mark_same i (and_left (is_member i) _ h)))
     ∙ numbers_same (length (i ∷ l)) i.writer i.set o
 
-complete_same : (l : List Item) (o : Option ℤ) (c : Option Bool) → all (λ i. is_member i) l ≡ true → set_is_complete (samples l) o c ≡ D.set_is_complete l o c
+complete_same : (l : List Item) (o : Option ℤ) (c : Option Bool) → list_all (λ i. is_member i) l ≡ true → set_is_complete (samples l) o c ≡ D.set_is_complete l o c
 complete_same l o (Some c) h = refl
 complete_same l o None h = first_same l o h
 
@@ -115,12 +114,12 @@ discard_same : (b : Bool) (l m : List Item) → or_discard b (samples l, samples
 discard_same true l m = refl
 discard_same false l m = ap (λ n. record { items = []; incomplete = Some n; hold = samples m }) (samples_length l)
 
-module _ (i : Item) (l : List Item) (h : all (λ i. is_member i) l ≡ true) where
+module _ (i : Item) (l : List Item) (h : list_all (λ i. is_member i) l ≡ true) where
   abbrev out : List Item
-  out = keep (λ h. leaves i.writer None h) l
+  out = filter (λ h. leaves i.writer None h) l
 
   abbrev left : List Item
-  left = keep (λ h. not (leaves i.writer None h)) l
+  left = filter (λ h. not (leaves i.writer None h)) l
 
   follow_snoc : samples out ++ (sample_w i.kind i ∷ []) ≡ samples (out ++ (i ∷ []))
   unfolding sample_of
@@ -163,8 +162,8 @@ module _ (i : Item) (l : List Item) (h : all (λ i. is_member i) l ≡ true) whe
   holds_k None e = whole_ends
   holds_k (Some z) e =
       ap (λ (p : List UserSample × List UserSample). record { items = p.0; incomplete = None; hold = p.1 ++ (sample_of i ∷ []) }) (release_same i.writer (Some z) l h)
-      ∙ ap (λ s. record { items = samples (keep (λ h. leaves i.writer s h) l); incomplete = None; hold = samples (keep (λ h. not (leaves i.writer s h)) l) ++ (sample_of i ∷ []) }) (sym e ∙ mark_same i (is_member_lem z e))
-      ∙ ap (λ m. record { items = samples (keep (λ h. leaves i.writer i.set h) l); incomplete = None; hold = m }) (samples_snoc (keep (λ h. not (leaves i.writer i.set h)) l) i)
+      ∙ ap (λ s. record { items = samples (filter (λ h. leaves i.writer s h) l); incomplete = None; hold = samples (filter (λ h. not (leaves i.writer s h)) l) ++ (sample_of i ∷ []) }) (sym e ∙ mark_same i (is_member_lem z e))
+      ∙ ap (λ m. record { items = samples (filter (λ h. leaves i.writer i.set h) l); incomplete = None; hold = m }) (samples_snoc (filter (λ h. not (leaves i.writer i.set h)) l) i)
 
   pub gate_same : (a : Bool) → gate (samples l) (sample_of i) a ≡ as_gated (gated a i l)
   unfolding gate gated is_member
@@ -172,21 +171,21 @@ module _ (i : Item) (l : List Item) (h : all (λ i. is_member i) l ≡ true) whe
   gate_same false = whole_passes
 
   -- the hold is of members then too
-  ended_members : (b : Bool) → all (λ i. is_member i) (ended b out left).hold ≡ true
+  ended_members : (b : Bool) → list_all (λ i. is_member i) (ended b out left).hold ≡ true
   ended_members true = all_keep (λ i. is_member i) (λ h. not (leaves i.writer None h)) l h
   ended_members false = all_keep (λ i. is_member i) (λ h. not (leaves i.writer None h)) l h
 
-  after_members : (k : Kind) → all (λ i. is_member i) (after k i out left).hold ≡ true
+  after_members : (k : Kind) → list_all (λ i. is_member i) (after k i out left).hold ≡ true
   after_members is_sample = all_keep (λ i. is_member i) (λ h. not (leaves i.writer None h)) l h
   after_members is_lifecycle = all_keep (λ i. is_member i) (λ h. not (leaves i.writer None h)) l h
   after_members (is_end o c) = ended_members (D.set_is_complete out o c)
 
-  hold_members : (b : Bool) → is_member i ≡ b → all (λ i. is_member i) (cond b (held_back i l) (after i.kind i out left)).hold ≡ true
-  unfolding held_back all
-  hold_members true e = all_both (λ i. is_member i) (keep (λ h. not (leaves i.writer i.set h)) l) (i ∷ []) (all_keep (λ i. is_member i) (λ h. not (leaves i.writer i.set h)) l h) (and_true (is_member i) true e refl)
+  hold_members : (b : Bool) → is_member i ≡ b → list_all (λ i. is_member i) (cond b (held_back i l) (after i.kind i out left)).hold ≡ true
+  unfolding held_back
+  hold_members true e = all_both (λ i. is_member i) (filter (λ h. not (leaves i.writer i.set h)) l) (i ∷ []) (all_keep (λ i. is_member i) (λ h. not (leaves i.writer i.set h)) l h) (and_true (is_member i) true e refl)
   hold_members false e = after_members i.kind
 
-  gated_members : (a : Bool) → all (λ i. is_member i) (gated a i l).hold ≡ true
+  gated_members : (a : Bool) → list_all (λ i. is_member i) (gated a i l).hold ≡ true
   unfolding gated
   gated_members true = hold_members (is_member i) refl
   gated_members false = h
@@ -198,9 +197,9 @@ module _ (i : Item) (l : List Item) (h : all (λ i. is_member i) l ≡ true) whe
   full_k None e = refl
   full_k (Some z) e =
       ap (λ (p : List UserSample × List UserSample). leb 64 (length (samples l)) && eqb (length p.0) 0) (release_same i.writer (Some z) l h)
-      ∙ ap (λ n. leb 64 n && eqb (length (samples (keep (λ h. leaves i.writer (Some z) h) l))) 0) (samples_length l)
-      ∙ ap (λ n. leb 64 (length l) && eqb n 0) (samples_length (keep (λ h. leaves i.writer (Some z) h) l))
-      ∙ ap (λ s. leb 64 (length l) && eqb (length (keep (λ h. leaves i.writer s h) l)) 0) (sym e ∙ mark_same i (is_member_lem z e))
+      ∙ ap (λ n. leb 64 n && eqb (length (samples (filter (λ h. leaves i.writer (Some z) h) l))) 0) (samples_length l)
+      ∙ ap (λ n. leb 64 (length l) && eqb n 0) (samples_length (filter (λ h. leaves i.writer (Some z) h) l))
+      ∙ ap (λ s. leb 64 (length l) && eqb (length (filter (λ h. leaves i.writer s h) l)) 0) (sym e ∙ mark_same i (is_member_lem z e))
 
   full_same : is_full (samples l) (coherent_member (sample_of i)) ≡ (is_member i && D.is_full l i)
   unfolding is_member
@@ -219,7 +218,7 @@ and_assoc true b c = refl
 and_assoc false b c = refl
 
 -- any hold of members, any item, any room
-pub call_same : (i : Item) (l : List Item) → all (λ i. is_member i) l ≡ true → (a : Bool) (room : ℕ) → gate_or (samples l) (sample_of i) a room ≡ as_answer (D.gate l i a room)
+pub call_same : (i : Item) (l : List Item) → list_all (λ i. is_member i) l ≡ true → (a : Bool) (room : ℕ) → gate_or (samples l) (sample_of i) a room ≡ as_answer (D.gate l i a room)
 unfolding gate_or D.gate
 call_same i l h a room =
     ap (λ n. cond (ltb room (n + 1)) (refused 5) (cond (a && is_full (samples l) (coherent_member (sample_of i))) (refused 7) (answered (gate (samples l) (sample_of i) a)))) (samples_length l)
@@ -238,16 +237,16 @@ held_same : (l : List Item) (r : Answer Effect) → held_after (samples l) (as_a
 held_same l (refused n) = refl
 held_same l (answered e) = refl
 
-kept_members : (i : Item) (l : List Item) → all (λ i. is_member i) l ≡ true → (a b c : Bool) → all (λ i. is_member i) (kept_by l (cond b (refused 5) (cond c (refused 7) (answered (gated a i l))))) ≡ true
+kept_members : (i : Item) (l : List Item) → list_all (λ i. is_member i) l ≡ true → (a b c : Bool) → list_all (λ i. is_member i) (kept_by l (cond b (refused 5) (cond c (refused 7) (answered (gated a i l))))) ≡ true
 kept_members i l h a true c = h
 kept_members i l h a false true = h
 kept_members i l h a false false = gated_members i l h a
 
-stays : (c : Call) (l : List Item) → all (λ i. is_member i) l ≡ true → all (λ i. is_member i) (kept_by l (D.gate l c.item c.access c.room)) ≡ true
+stays : (c : Call) (l : List Item) → list_all (λ i. is_member i) l ≡ true → list_all (λ i. is_member i) (kept_by l (D.gate l c.item c.access c.room)) ≡ true
 unfolding D.gate
 stays c l h = kept_members c.item l h c.access (ltb c.room (length l + 1)) (c.access && is_member c.item && D.is_full l c.item)
 
-answers_from : (cs : List Call) (l : List Item) → all (λ i. is_member i) l ≡ true → answers (samples l) cs ≡ answers_by l cs
+answers_from : (cs : List Call) (l : List Item) → list_all (λ i. is_member i) l ≡ true → answers (samples l) cs ≡ answers_by l cs
 unfolding answers answers_by
 answers_from [] l h = refl
 answers_from (c ∷ cs) l h =
@@ -257,7 +256,7 @@ answers_from (c ∷ cs) l h =
     ∙ ap (λ m. told_by r ∷ answers m cs) (held_same l r)
     ∙ ap (λ more. told_by r ∷ more) (answers_from cs (kept_by l r) (stays c l h))
 
-run_from : (cs : List Call) (l : List Item) → all (λ i. is_member i) l ≡ true → run (samples l) cs ≡ samples (run_by l cs)
+run_from : (cs : List Call) (l : List Item) → list_all (λ i. is_member i) l ≡ true → run (samples l) cs ≡ samples (run_by l cs)
 unfolding run run_by
 run_from [] l h = refl
 run_from (c ∷ cs) l h =
@@ -266,7 +265,6 @@ run_from (c ∷ cs) l h =
     ∙ run_from cs (kept_by l (D.gate l c.item c.access c.room)) (stays c l h)
 
 pub gate_alike : (cs : List Call) → SameRun cs
-unfolding all
 gate_alike cs = record { answers_same = answers_from cs [] refl; hold_same = run_from cs [] refl }
 
 kind_member : (c : Change) (m : Member) → is_member (record { kind = D.change_as c; writer = m.writer; set = Some m.set; item = m.item }) ≡ true
@@ -274,13 +272,12 @@ unfolding is_member
 kind_member C.Sample m = refl
 kind_member C.Lifecycle m = refl
 
-all_members : (l : List Member) → all (λ i. is_member i) (map (λ m. member_as m) l) ≡ true
-unfolding all
+all_members : (l : List Member) → list_all (λ i. is_member i) (map (λ m. member_as m) l) ≡ true
 all_members [] = refl
 all_members (m ∷ l) = and_true (is_member (member_as m)) _ (kind_member m.change m) (all_members l)
 
 -- every hold of the code is one of members
-pub hold_of_members : (h : CoherentHold) → all (λ i. is_member i) (hold_as h) ≡ true
+pub hold_of_members : (h : CoherentHold) → list_all (λ i. is_member i) (hold_as h) ≡ true
 hold_of_members h = all_members h.held.items
 
 -- ---- the code

@@ -3,7 +3,7 @@ use Rattle.std.specs.Prelude.{ℕ, ◌+◌, ◌/◌, ◌≡◌, Bool, false, ◌
 use Rattle.std.specs.Prelude.{Option, Some, None, Result}
 use Rattle.laws.specs.Answer.{Answer, refused, answered}
 use Rattle.guids.specs.Guid.{Guid}
-use Rattle.coherent_hold.specs.Gate.{Kind, is_sample, is_lifecycle, is_end, Item, Effect, item_as, hold_as, answer_as, written}
+use Rattle.coherent_hold.specs.Gate.{Kind, is_sample, is_lifecycle, is_end, Item, Effect, item_as, hold_as, gate_answer_as, written}
 use Rattle.coherent_hold.specs.Gate as D
 use Rattle.refusals.specs.declared.Refusal.{Refusal}
 use Rattle.coherent_hold.specs.declared.items.Item as It
@@ -99,7 +99,7 @@ held_in h = map (λ i. sample_of i) (hold_as h)
 
 -- the hold was h and is k then, the list was o and is p then
 pub record CodeSame (h : CoherentHold) (i : It.Item) (a : Bool) (o : List ℕ) (r : Result Gd.Gated Refusal) (k : CoherentHold) (p : List ℕ) : Type 0 where
-  pub answer_is : answer_as r ≡ counted (gate_or (held_in h) (sample_of (item_as i)) a (length o / 5))
+  pub answer_is : gate_answer_as r ≡ counted (gate_or (held_in h) (sample_of (item_as i)) a (length o / 5))
   pub hold_is : held_in k ≡ held_after (held_in h) (gate_or (held_in h) (sample_of (item_as i)) a (length o / 5))
   -- what is written are the items that the source returns
   pub out : List Item

@@ -1,3 +1,3 @@
 pub mod Guids
-pub mod Compare
+pub mod Numbers
 pub mod Keys

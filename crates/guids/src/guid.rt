@@ -1,29 +1,25 @@
-// GUIDs, and their order.
+// GUIDs: sixteen bytes, and their one order.
 ghost use Rattle.std.specs.Prelude.{◌≡◌};
-ghost use Rattle.guids.specs.Guid.{compare_guid, order_as};
+ghost use Rattle.guids.specs.Guid.{compare_guid, same_guid, before};
 
-#[derive(Clone, Copy)]
-pub enum GuidOrder {
-    Before,
-    Same,
-    After,
+use std::cmp::Ordering;
+
+// Byte by byte from the first, which is the order of the numbers that they make.
+pub fn compare(a: [u8; 16], b: [u8; 16]) -> Ordering
+    ensures { result ≡ compare_guid a b }
+{
+    u128::from_be_bytes(a).cmp(&u128::from_be_bytes(b))
 }
 
-// Compares byte by byte from the first.
-pub fn compare(a: [u8; 16], b: [u8; 16]) -> GuidOrder
-    ensures { order_as result ≡ compare_guid a b }
+pub fn same(a: [u8; 16], b: [u8; 16]) -> bool
+    ensures { result ≡ same_guid a b }
 {
-    let mut i: usize = 0;
-    while i < 16 {
-        let x = a[i];
-        let y = b[i];
-        if x < y {
-            return GuidOrder::Before;
-        }
-        if y < x {
-            return GuidOrder::After;
-        }
-        i += 1;
-    }
-    GuidOrder::Same
+    u128::from_be_bytes(a) == u128::from_be_bytes(b)
+}
+
+#[tactic(auto, unfolding(crate::specs::Guid::before))]
+pub fn before(a: [u8; 16], b: [u8; 16]) -> bool
+    ensures { result ≡ before a b }
+{
+    compare(a, b).is_lt()
 }

@@ -17,7 +17,7 @@ pub fn put_hex<const N: usize>(out: &mut ArrayVec<u8, N>, bytes: &[u8])
     }
 }
 
-// The bytes that text spells; none where it spells no bytes, or more than N.
+// The bytes that text spells; none where a byte is no digit, a digit stands alone, or there are more than N bytes.
 pub fn read_hex<const N: usize>(text: &[u8]) -> Option<ArrayVec<u8, N>>
     ensures { option_map (λ v. v.items) result ≡ within N (unhex text.now) }
 {

@@ -1,4 +1,2 @@
 pub mod Chained
-pub mod Fresh
-pub mod Noting
 pub mod Own

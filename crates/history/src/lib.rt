@@ -1,4 +1,4 @@
-// The subscriber's group history in a lent store: group_order.rs of the source, by the rules of crate `rules`.
+// The subscriber's group history: group_order.rs of the source, by the rules of crate `rules`.
 #![tactic(auto)]
 
 pub mod order;

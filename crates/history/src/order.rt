@@ -1,116 +1,133 @@
-// The history's calls, each on its store.
+// The history and its calls.
 ghost use Rattle.std.specs.Prelude.{◌≡◌};
 ghost use Rattle.laws.specs.Answer.{Kept};
+ghost use Rattle.refusals.specs.Refusal.{answer_as};
 ghost use Rattle.rules.specs.State.{fresh, knows_writer};
 ghost use Rattle.rules.specs.Offer as O;
 ghost use Rattle.rules.specs.Run.{waiting, nothing_waits};
-ghost use Rattle.store.specs.Store.{state_of, writers_of};
-ghost use Rattle.offers.specs.Calls.{offer_as, heartbeat_as, gap_as, offered_as, told_as};
-ghost use Rattle.page.specs.Words.{paged_as, page_to};
-ghost use Rattle.readings.specs.Counts.{counts_as};
-ghost use Rattle.release.specs.Released.{released_as};
-ghost use Rattle.history.specs.Chain.{Releases};
+ghost use Rattle.rules.specs.Release.{samples};
+ghost use Rattle.page.specs.Words.{page_to};
+ghost use Rattle.release.specs.Released.{release_to, view_of};
 
-use group_view::view::{DigestRow, Pair, note_digests, note_pairs};
-use offers::call::{Accepted, Gap, Heartbeat, Offer, Offered};
 use offers::gap::gap;
 use offers::heartbeat::heartbeat;
 use offers::offer::offer;
-use page::fill::{Paged, fill_page};
-use readings::readings::{
-    ReleaseCounts, reading_counts, reading_held_for, reading_is_empty, reading_knows,
-};
-use release::release::{Released, release_noted};
-use store::words::Store;
+use page::fill::fill_page;
+use refusals::Refusal;
+use release::release::release;
+use rules::call::{Fate, Gap, Heartbeat, Offer};
+use rules::state::ReleaseCounts;
+use rules::view::{DigestRow, Pair};
+use std::marker::Model;
+use store::Store;
 
-// The store: a header and three tables of words (specs/Store.antt).
-#[derive(Clone, Copy)]
+// Seen as the definitions' state: the groups and writers known, the entries pending and held, the counts and the timeout.
+#[derive(Drop)]
 pub struct GroupOrder {
-    pub words: Store,
+    store: Store,
+}
+
+impl Model for GroupOrder {
+    ghost use Rattle.std.specs.Prelude.{ℕ};
+    ghost use Rattle.rules.specs.State.{State};
+    ghost use Rattle.store.specs.Store.{state_of};
+
+    ghost Value = { State ℕ };
+
+    ghost view = { λ order. state_of order.store };
 }
 
 impl GroupOrder {
+    // Nanoseconds.
     pub const GROUP_TIMEOUT: u64 = 1_000_000_000;
 
-    // Nothing known or stored.
+    // Nothing known or stored; the timeout is in nanoseconds.
     pub fn new(timeout: u64) -> GroupOrder
-        ensures { state_of result.words ≡ fresh timeout }
+        ensures { result ≡ fresh timeout }
     {
-        let mut words = [0u64; 6984];
-        words[3] = timeout;
-        GroupOrder { words }
+        GroupOrder {
+            store: Store::new(timeout),
+        }
     }
 
-    pub fn offer(store: &mut Store, o: Offer) -> Offered
-        ensures is { (offered_as result, state_of store.new) ≡ O.offer (state_of store.old) (offer_as o) }
-        ensures kept { Kept (offered_as result) store.old store.new }
+    // Refused 1 (a reader above 7), 2 (a ninth group), 3 (a 33rd pair of group and writer) or 4 (it would add to 256 entries stored).
+    pub fn offer(&mut self, o: Offer<u32>) -> Result<Fate, Refusal>
+        ensures is { (answer_as result, self.new) ≡ O.offer self.old o }
+        ensures kept { Kept (answer_as result) self.old self.new }
     {
-        offer(store, o)
+        offer(&mut self.store, o)
     }
 
-    pub fn heartbeat(store: &mut Store, h: Heartbeat) -> Accepted
-        ensures is { (told_as result, state_of store.new) ≡ O.heartbeat (state_of store.old) (heartbeat_as h) }
-        ensures kept { Kept (told_as result) store.old store.new }
+    // Refused 2 or 3, as an offer is.
+    pub fn heartbeat(&mut self, h: Heartbeat) -> Result<(), Refusal>
+        ensures is { (answer_as result, self.new) ≡ O.heartbeat self.old h }
+        ensures kept { Kept (answer_as result) self.old self.new }
     {
-        heartbeat(store, h)
+        heartbeat(&mut self.store, h)
     }
 
-    pub fn gap(store: &mut Store, x: Gap) -> Accepted
-        ensures is { (told_as result, state_of store.new) ≡ O.gap (state_of store.old) (gap_as x) }
-        ensures kept { Kept (told_as result) store.old store.new }
+    // Refused 1, 2 or 3, as an offer is.
+    pub fn gap(&mut self, x: Gap) -> Result<(), Refusal>
+        ensures is { (answer_as result, self.new) ≡ O.gap self.old x }
+        ensures kept { Kept (answer_as result) self.old self.new }
     {
-        gap(store, x)
+        gap(&mut self.store, x)
     }
 
-    // The release on lists of counted rows and digest rows, which it notes in a view of its own.
+    // Refused 9 (malformed rows), then 5 (a list shorter than the number of stored samples); else answers how many places are written, from the
+    // list's start: reader · 2^32 + item of each sample handed out, in order. Time in nanoseconds.
     pub fn release(
-        store: &mut Store,
+        &mut self,
         counted: &[Pair],
         digests: &[DigestRow],
         time: u64,
         out: &mut [u64],
-    ) -> Released
-        ensures is { Releases store.old counted.now digests.now time out.old
-            result store.new out.new }
-        ensures kept { Kept (released_as result) store.old store.new }
+    ) -> Result<usize, Refusal>
+        ensures is { (answer_as result, self.new, out.new) ≡ release_to self.old (view_of counted.now digests.now) time out.old }
+        ensures kept { Kept (answer_as result) self.old self.new }
     {
-        let mut view = [0; 1307];
-        note_pairs(&mut view, counted);
-        note_digests(&mut view, digests);
-        release_noted(store, &view, time, out)
+        release(&mut self.store, counted, digests, time, out)
     }
 
-    // The samples of a reader that are pending or held.
-    pub fn held_for(store: &Store, reader: u8) -> usize
-        ensures { result ≡ waiting (state_of store.now) reader }
+    // The samples of a reader that are pending or held; 0 of a reader above 7.
+    pub fn held_for(&self, reader: u8) -> usize
+        ensures { result ≡ waiting self.now reader }
     {
-        reading_held_for(store, reader)
+        readings::held_for(&self.store, reader)
     }
 
-    // For each group, in the order of the GUIDs, and each reader: the samples pending, those held, their oldest offer time in
-    // nanoseconds; 64 rows of four words (page/specs/Words.antt).
-    pub fn page(store: &Store, rows: &mut [u64]) -> Paged
-        ensures { (paged_as result, rows.new) ≡ page_to (state_of store.now) rows.old }
+    // The stored samples.
+    pub fn sample_count(&self) -> usize
+        ensures { result ≡ samples self.now }
     {
-        fill_page(store, rows)
+        readings::sample_count(&self.store)
     }
 
-    pub fn is_empty(store: &Store) -> bool
-        ensures { result ≡ nothing_waits (state_of store.now) }
+    // No entry is pending and no member held.
+    pub fn is_empty(&self) -> bool
+        ensures { result ≡ nothing_waits self.now }
     {
-        reading_is_empty(store)
+        readings::is_empty(&self.store)
     }
 
-    pub fn counts(store: &Store) -> ReleaseCounts
-        ensures { counts_as result ≡ (state_of store.now).counts }
+    pub fn counts(&self) -> ReleaseCounts
+        ensures { result ≡ self.now.counts }
     {
-        reading_counts(store)
+        self.store.sets.counts
     }
 
     // Whether a pair of group and writer is known.
-    pub fn knows(store: &Store, group: [u8; 16], writer: [u8; 16]) -> bool
-        ensures { result ≡ knows_writer group writer (writers_of store.now) }
+    pub fn knows(&self, group: [u8; 16], writer: [u8; 16]) -> bool
+        ensures { result ≡ knows_writer group writer self.now.writers }
     {
-        reading_knows(store, group, writer)
+        self.store.knows(group, writer)
+    }
+
+    // For each group, in the order of the GUIDs, and each reader: the samples pending, those held, their oldest offer time in nanoseconds; 64 rows
+    // of four words (page/specs/Words.antt). Refused 5 (fewer than 64 rows); else answers the entries read.
+    pub fn page(&self, rows: &mut [u64]) -> Result<usize, Refusal>
+        ensures { (answer_as result, rows.new) ≡ page_to self.now rows.old }
+    {
+        fill_page(&self.store, rows)
     }
 }

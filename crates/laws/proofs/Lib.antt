@@ -1,9 +1,4 @@
+pub mod Answer
 pub mod Whole
 pub mod Bytes
 pub mod Lists
-pub mod Loops
-pub mod Places
-pub mod Index
-pub mod Table
-pub mod Arrays
-pub mod Packing

@@ -2,4 +2,3 @@ pub mod Answer
 pub mod Whole
 pub mod Bytes
 pub mod Lists
-pub mod Table

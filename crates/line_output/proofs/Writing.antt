@@ -1,7 +1,7 @@
 -- What a writer gets, where its bytes are known.
 use Rattle.std.proofs.Common.{◌≡◌, ℕ, ◌+◌, ◌-◌, List, [], ◌++◌, length, take, drop, min, Option, None, Some, sym, ap, subst, ◌∙◌, arith, append-nil, append_assoc}
-use Rattle.std.specs.Prelude.{IsNone, Result, Ok}
-use Rattle.std.specs.Io.KnownBytes.{Appends, Keeps, WriteAppends}
+use Rattle.std.specs.Prelude.{IsNone}
+use Rattle.std.specs.Io.KnownBytes.{Appends, Keeps}
 use Rattle.std.proofs.lemmas.List.{take_min, take-append-le, take-append-drop, take_rest}
 use Rattle.std.proofs.Math.Seq.{take-append-add, take-append_seam}
 use Rattle.line_output.specs.declared.Output.{Output}
@@ -108,9 +108,3 @@ module _ {W : Type 0} (k m : Option (List ℕ)) (before : List ℕ) (e : Output 
         whole = λ g. subst (λ l. Passes k k' before text l) (sym q) (passes_sent k k' before text (added_on k m k' before text b (a g)));
         front = front_behind k m k' before text b f;
       }
-
--- what a list has room for of a text
-pub part_written : {E : Type 0} (old new part : List ℕ) (n : ℕ) (r : Result ℕ E) → WriteAppends (Some old) (Some new) r part
-    → r ≡ Ok (min (n - length old) (length part)) → new ≡ old ++ take (n - length old) part
-part_written {E} old new part n r w e =
-    (subst (λ (x : Result ℕ E). WriteAppends (Some old) (Some new) x part) e w) ∙ ap (λ l. old ++ l) (take_min (n - length old) part)

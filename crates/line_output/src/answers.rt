@@ -1,5 +1,4 @@
 // The answers to the lines of an input.
-ghost use Rattle.std.specs.Prelude.{◌≡◌, ◌≤◌, ◌-◌, ◌++◌, length, take};
 ghost use Rattle.line_output.specs.Answers.{Answered};
 
 use crate::Output;
@@ -34,13 +33,4 @@ pub fn answer_lines<R: Read, W: Write, F: FnMut(&mut Text, &[u8])>(
         output.gather(text.as_slice());
     }
     output.flush();
-}
-
-// Puts the first bytes of what was said into a text, as far as that has room, where so many were said.
-pub fn put_front(text: &mut Text, said: &[u8], count: usize)
-    ensures { count ≤ length said.now → text.new.items ≡ text.old.items ++ take (8192 - length text.old.items) (take count said.now) }
-{
-    if count <= said.len() {
-        let _fit = text.write(&said[..count]);
-    }
 }

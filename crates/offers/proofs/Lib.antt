@@ -1,4 +1,3 @@
-pub mod Accepting
-pub mod Appending
-pub mod Joined
-pub mod Telling
+pub mod Refusing
+pub mod Hearing
+pub mod Joining

@@ -1,99 +1,59 @@
-// An end at or below committed that joins its open set.
-ghost use Rattle.std.specs.Prelude.{◌≡◌, ◌≤◌};
-ghost use Rattle.laws.specs.Lists.{find};
-ghost use Rattle.rules.specs.Offer.{place, is_joined};
-ghost use Rattle.store.specs.Store.{state_of, rows_in, row_mark};
-ghost use Rattle.guids.specs.Keys.{key_as};
-ghost use Rattle.store.specs.Records.{entry_as, fits};
-ghost use Rattle.offers.specs.Calls.{offer_as};
-ghost use Rattle.offers.specs.Steps.{Joins, JoinsSet, MayJoin};
+// An end that joins its open set.
+ghost use Rattle.std.specs.Prelude.{◌≡◌, ◌<◌, not, length};
+ghost use Rattle.laws.specs.Lists.{filter, list_any};
+ghost use Rattle.rules.specs.Offer.{shares, replaced, keep_end, join};
 
-use crate::append::append;
-use crate::call::Offer;
-use guids::key::Key;
-use store::coding::read_entry;
-use store::entry::{Entry, What};
-use store::query::Query;
-use store::rows::{any_row, entry_count, find_row, remove_rows};
-use store::words::Store;
+use rules::entry::Entry;
+use sets::{Sets, is_end_of, is_in};
 
-// Whether an offer at or below committed joins an open set, and whether it replaces its pair's end there.
-#[derive(Clone, Copy)]
-pub(crate) enum Joining {
-    Nothing,
-    Replaces,
-    Adds,
+// h is of e's set.
+#[tactic(auto, unfolding(rules::specs::Offer::shares, rules::specs::Entry::in_set))]
+fn shares(e: &Entry<u32>, h: &Entry<u32>) -> bool
+    ensures { result ≡ shares e.now h.now }
+{
+    e.set.is_some_and(|set| is_in(h, e.group, set))
 }
 
-pub(crate) fn join_of(store: &Store, group: Key, writer: Key, o: Offer) -> Joining
-    requires { (key_as group ≡ o.group) × (key_as writer ≡ o.writer) }
-    ensures { Joins result (state_of store.now).held (offer_as o) }
+// h is the kept end of e's pair in e's set.
+#[tactic(auto, unfolding(rules::specs::Offer::replaced, rules::specs::Offer::shares, rules::specs::Entry::is_end_of, rules::specs::Entry::in_set))]
+fn replaces(e: &Entry<u32>, h: &Entry<u32>) -> bool
+    ensures { result ≡ replaced e.now h.now }
 {
-    let what = o.what;
-    let set = o.set;
-    let reader = o.reader;
-    match what {
-        What::Sample(_) => Joining::Nothing,
-        What::End(_) => match set {
-            None => Joining::Nothing,
-            Some(z) => join_in_set(store, group, writer, reader, z),
-        },
-    }
+    e.set
+        .is_some_and(|set| is_end_of(h, e.group, set, e.writer, e.reader))
 }
 
-fn join_in_set(store: &Store, group: Key, writer: Key, reader: u8, set: i64) -> Joining
-    ensures { JoinsSet result (key_as group) set (key_as writer) reader (state_of store.now).held }
+// Some entry is of e's set.
+pub(crate) fn is_open(sets: &Sets, e: &Entry<u32>) -> bool
+    ensures { result ≡ list_any (λ h. shares e.now h) sets.now.held.items }
 {
-    let n = entry_count(store);
-    if any_row(store, n, Query::of_pair(group, set, writer, reader, false)) {
-        return Joining::Replaces;
-    }
-    if any_row(store, n, Query::of_set(group, set)) {
-        return Joining::Adds;
-    }
-    Joining::Nothing
+    sets.held.as_slice().iter().any(|h| shares(e, h))
 }
 
-// The mark of the row that the query finds first, if any.
-fn mark_of(store: &Store, n: usize, q: Query) -> Option<u64>
-    requires { n ≤ 512 }
-    ensures { result ≡ row_mark (find (λ x. fits q x) (rows_in n store.now)) }
+// The end of e's pair is kept in e's set.
+pub(crate) fn has_end(sets: &Sets, e: &Entry<u32>) -> bool
+    ensures { result ≡ list_any (λ h. replaced e.now h) sets.now.held.items }
 {
-    let i = find_row(store, n, q);
-    if i < n {
-        let e = read_entry(store, i);
-        return e.ended;
-    }
-    None
+    sets.held.as_slice().iter().any(|h| replaces(e, h))
 }
 
-// An end joins its set, which it has, in place of its pair's earlier end, and takes that one's mark over.
-pub(crate) fn join_end(store: &mut Store, group: Key, writer: Key, e: Entry)
-    requires { MayJoin (key_as group) (key_as writer) e (state_of store.old) }
-    ensures { state_of store.new ≡ place is_joined (entry_as e) (state_of store.old) }
+// The end is kept, marked so, in place of its pair's earlier one.
+fn keep_end(sets: &mut Sets, e: Entry<u32>, ended: Option<u64>)
+    requires { length (filter (λ h. not (replaced e h)) sets.old.held.items) < 256 }
+    ensures held { sets.new.held.items ≡ keep_end ended e sets.old.held.items }
+    ensures counts { sets.new.counts ≡ sets.old.counts }
 {
-    let n = entry_count(store);
-    let group_bytes = e.group;
-    let writer_bytes = e.writer;
-    let set = e.set;
-    let what = e.what;
-    match set {
-        None => {}
-        Some(z) => {
-            let q = Query::of_pair(group, z, writer, e.reader, false);
-            let ended = mark_of(store, n, q);
-            let k = remove_rows(store, n, q);
-            let kept = Entry {
-                group: group_bytes,
-                writer: writer_bytes,
-                reader: e.reader,
-                number: e.number,
-                set,
-                what,
-                time: e.time,
-                ended,
-            };
-            append(store, k, kept, 1);
-        }
-    }
+    sets.held.retain(|h| !replaces(&e, h));
+    sets.held.push(Entry { ended, ..e });
+}
+
+// It replaces its pair's end in its set, and marks the set as much as that one did.
+pub(crate) fn join(sets: &mut Sets, e: Entry<u32>)
+    requires { length (filter (λ h. not (replaced e h)) sets.old.held.items) < 256 }
+    ensures held { sets.new.held.items ≡ join e sets.old.held.items }
+    ensures counts { sets.new.counts ≡ sets.old.counts }
+{
+    let earlier = sets.held.as_slice().iter().find(|h| replaces(&e, h));
+    let ended = earlier.and_then(|h| h.ended);
+    keep_end(sets, e, ended);
 }

@@ -1,10 +1,9 @@
 // Offers, heartbeats and gaps of the history: what they change in its store, and what they answer.
 #![tactic(auto)]
 
-mod append;
-pub mod call;
+mod admit;
 pub mod gap;
+mod hear;
 pub mod heartbeat;
 mod join;
-mod limits;
 pub mod offer;

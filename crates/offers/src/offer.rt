@@ -1,152 +1,114 @@
 // An offer: judged, its marks noted, then stored, joined or counted late.
-ghost use Rattle.std.specs.Prelude.{◌≡◌, ◌<◌, ◌^◌};
-ghost use Rattle.rules.specs.State.{stored};
-ghost use Rattle.rules.specs.Offer.{offer, entry_of, place, is_stored};
-ghost use Rattle.store.specs.Store.{state_of};
-ghost use Rattle.guids.specs.Keys.{key_as};
-ghost use Rattle.store.specs.Records.{entry_as};
-ghost use Rattle.offers.specs.Calls.{offer_as, offered_as};
-ghost use Rattle.offers.specs.Steps.{Admits, noted, with_late};
+ghost use Rattle.std.specs.Prelude.{◌≡◌, ◌∷◌, [], ◌&&◌, leb, false};
 ghost use Rattle.laws.specs.Answer.{Kept};
+ghost use Rattle.refusals.specs.Refusal.{answer_as};
+ghost use Rattle.rules.specs.State.{stored};
+ghost use Rattle.rules.specs.Offer.{offer, entry_of, fate_of, adds, refusal, place};
+ghost use Rattle.store.specs.Store.{state_of};
+ghost use Rattle.offers.specs.Refused.{refused_by};
 
-use crate::append::append;
-use crate::call::{Offer, Offered};
-use crate::join::{Joining, join_end, join_of};
-use crate::limits::{is_full, ninth_group, pair_over_32};
-use guids::key::{Key, pack};
+use crate::admit::{admit_reader, admit_writer};
+use crate::hear::hear;
+use crate::join::{has_end, is_open, join};
+use refusals::Refusal;
+use rules::call::{Fate, Offer};
+use rules::entry::{Entry, What};
 use rules::number::clamp;
-use store::entry::Entry;
-use store::groups::{committed_of, hear_group};
-use store::rows::entry_count;
-use store::words::{Store, put_word, whole, word};
-use store::writers::{hear_writer, note_seen};
+use store::Store;
 
-pub fn offer(store: &mut Store, o: Offer) -> Offered
-    ensures is { (offered_as result, state_of store.new) ≡ offer (state_of store.old) (offer_as o) }
-    ensures kept { Kept (offered_as result) store.old store.new }
+// Refused 1 (a reader above 7), 2 (a ninth group), 3 (a 33rd pair of group and writer) or 4 (it would add to 256 entries stored).
+#[tactic(auto, unfolding(laws::specs::Answer::Kept))]
+pub fn offer(store: &mut Store, o: Offer<u32>) -> Result<Fate, Refusal>
+    ensures is { (answer_as result, state_of store.new) ≡ offer (state_of store.old) o }
+    ensures kept { Kept (answer_as result) store.old store.new }
 {
-    let g = o.group;
-    let w = o.writer;
-    let group = pack(g);
-    let writer = pack(w);
-    let e = entry_of(o);
-    let answer = judge(store, group, writer, o);
-    match answer {
-        Offered::Stored => {
-            note_offer(store, group, writer, o.reader, e.number, o.digest);
-            store_pending(store, e);
-            answer
-        }
-        Offered::Joined => {
-            note_offer(store, group, writer, o.reader, e.number, o.digest);
-            join_end(store, group, writer, e);
-            answer
-        }
-        Offered::Late => {
-            note_late(store, group, writer, o.reader, e.number, o.digest);
-            answer
-        }
-        Offered::ReaderAboveSeven => answer,
-        Offered::NinthGroup => answer,
-        Offered::PairOver32 => answer,
-        Offered::Full => answer,
-    }
+    admit_reader(o.reader)?;
+    admit_writer(store, o.group, o.writer)?;
+    let fate = fate_of(store, o);
+    admit_entry(store, o, fate)?;
+    hear(store, o.group, o.writer, |w| {
+        w.saw(o.reader, clamp(o.number), o.digest)
+    });
+    place(store, o, fate);
+    Ok(fate)
 }
 
-// The entry that an offer brings; numbers of 0 or less count as 0.
-fn entry_of(o: Offer) -> Entry
-    ensures is { entry_as result ≡ entry_of (offer_as o) }
-    ensures low { result.number < 2 ^ 63 }
+// The entry that an offer brings; numbers of 0 or less count as 0. Not a `From`: that would have to stand in `rules`, and no other crate calls it.
+#[tactic(auto, unfolding(rules::specs::Offer::entry_of))]
+fn entry_of(o: Offer<u32>) -> Entry<u32>
+    ensures { result ≡ entry_of o }
 {
-    let group = o.group;
-    let writer = o.writer;
-    let set = o.set;
-    let what = o.what;
+    let Offer {
+        group,
+        writer,
+        reader,
+        number,
+        set,
+        what,
+        time,
+        ..
+    } = o;
     Entry {
         group,
         writer,
-        reader: o.reader,
-        number: clamp(o.number),
+        reader,
+        number: clamp(number),
         set,
         what,
-        time: o.time,
+        time,
         ended: None,
     }
 }
 
-// What an offer answers; nothing is changed.
-fn judge(store: &Store, group: Key, writer: Key, o: Offer) -> Offered
-    requires { (key_as group ≡ o.group) × (key_as writer ≡ o.writer) }
-    ensures { offered_as result ≡ (offer (state_of store.now) (offer_as o)).0 }
+// Above committed: stored; else an end whose set is open joins it; all else is late.
+#[tactic(auto, unfolding(rules::specs::Offer::fate_of))]
+fn fate_of(store: &Store, o: Offer<u32>) -> Fate
+    ensures { result ≡ fate_of (state_of store.now) o }
 {
-    let ninth = ninth_group(store, group);
-    let pair = pair_over_32(store, group, writer);
-    let full = is_full(store);
-    let above = 7 < o.reader;
-    if above {
-        return Offered::ReaderAboveSeven;
+    if store.committed_of(o.group) < clamp(o.number) {
+        return Fate::Stored;
     }
-    let refused_2 = ninth;
-    if refused_2 {
-        return Offered::NinthGroup;
+    if matches!(o.what, What::End(_)) && is_open(&store.sets, &entry_of(o)) {
+        return Fate::Joined;
     }
-    let refused_3 = pair;
-    if refused_3 {
-        return Offered::PairOver32;
+    Fate::Late
+}
+
+// Whether one entry more is stored then.
+#[tactic(auto, unfolding(rules::specs::Offer::adds))]
+fn adds(store: &Store, o: Offer<u32>, fate: Fate) -> bool
+    ensures { result ≡ adds fate (state_of store.now) o }
+{
+    match fate {
+        Fate::Stored => true,
+        Fate::Joined => !has_end(&store.sets, &entry_of(o)),
+        Fate::Late => false,
     }
-    if committed_of(store, group) < clamp(o.number) {
-        if full {
-            return Offered::Full;
+}
+
+// Refused 4: it would add to 256 entries stored.
+#[tactic(auto, unfolding(rules::specs::Offer::refusal))]
+fn admit_entry(store: &Store, o: Offer<u32>, fate: Fate) -> Result<(), Refusal>
+    ensures { refused_by result ≡ refusal ((4, adds fate (state_of store.now) o && leb 256 (stored (state_of store.now))) ∷ []) }
+{
+    if adds(store, o, fate) && store.is_full() {
+        return Err(Refusal::EntriesFull);
+    }
+    Ok(())
+}
+
+// The entry is pending, joins its set, or is counted late.
+#[tactic(auto, unfolding(rules::specs::Offer::place, rules::specs::Offer::one_late, rules::specs::State::plus))]
+fn place(store: &mut Store, o: Offer<u32>, fate: Fate)
+    requires { adds fate (state_of store.old) o && leb 256 (stored (state_of store.old)) ≡ false }
+    ensures { state_of store.new ≡ place fate (entry_of o) (state_of store.old) }
+{
+    match fate {
+        Fate::Stored => store.pending.push(entry_of(o)),
+        Fate::Joined => join(&mut store.sets, entry_of(o)),
+        Fate::Late => {
+            let counts = &mut store.sets.counts;
+            counts.late_samples = counts.late_samples.saturating_add(1);
         }
-        return Offered::Stored;
-    }
-    match join_of(store, group, writer, o) {
-        Joining::Nothing => Offered::Late,
-        Joining::Replaces => Offered::Joined,
-        Joining::Adds => {
-            if full {
-                return Offered::Full;
-            }
-            Offered::Joined
-        }
-    }
-}
-
-// The marks of an offer that is not refused.
-fn note_offer(store: &mut Store, group: Key, writer: Key, reader: u8, number: u64, digest: u32)
-    requires { Admits (key_as group) (key_as writer) reader (state_of store.old) }
-    ensures { state_of store.new
-        ≡ noted (key_as group) (key_as writer) reader number digest (state_of store.old) }
-{
-    hear_group(store, group);
-    let i = hear_writer(store, group, writer);
-    note_seen(store, i, reader as usize, number, digest);
-}
-
-fn store_pending(store: &mut Store, e: Entry)
-    requires { (stored (state_of store.old) < 256) × (e.number < 2 ^ 63) }
-    ensures { state_of store.new ≡ place is_stored (entry_as e) (state_of store.old) }
-{
-    let n = entry_count(store);
-    append(store, n, e, 0);
-}
-
-// A late offer is heard all the same, and counted.
-fn note_late(store: &mut Store, group: Key, writer: Key, reader: u8, number: u64, digest: u32)
-    requires { Admits (key_as group) (key_as writer) reader (state_of store.old) }
-    ensures { state_of store.new
-        ≡ with_late (noted (key_as group) (key_as writer) reader number digest (state_of store.old)) }
-{
-    note_offer(store, group, writer, reader, number, digest);
-    count_late(store);
-}
-
-fn count_late(store: &mut Store)
-    ensures { state_of store.new ≡ with_late (state_of store.old) }
-{
-    whole(store);
-    let late = word(store, 7);
-    if late < 18446744073709551615 {
-        put_word(store, 7, late + 1);
     }
 }

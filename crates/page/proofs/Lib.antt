@@ -1,5 +1,4 @@
-pub mod RowWords
-pub mod Walks
-pub mod Blanks
-pub mod Bounds
 pub mod Reading
+pub mod Starting
+pub mod Walks
+pub mod Writing

@@ -1,95 +1,129 @@
--- The walk's state: the rows of the store before row i are read.
-use Prim.Native.Nat.{ℕ, zero, suc, ◌+◌, ◌*◌, ◌≤◌, ◌<◌, min}
-use mathlib.Core.Path.{◌≡◌, refl, sym, ap, subst, ◌∙◌}
-use mathlib.Core.List.{List, [], ◌∷◌}
+-- Entries read into rows, one after the other.
+use Rattle.std.proofs.Common.{◌≡◌, ℕ, zero, suc, ◌+◌, ◌<◌, ◌≤◌, Bool, true, false, cond, not, List, [], ◌∷◌, ◌++◌, length, take, get_or, set, slice_get, Some, None, refl, sym, ap, ◌∙◌, arith, unwrap_or, option_map, replicate, subst, ltb}
+use borrow.Author.Tests.{ltb-false}
 use Rattle.std.specs.Prelude.{Option}
-use native.Mathlib.Omega.{arith}
-use lib.ListN.{length, drop, get_or}
-use Rattle.rules.specs.Entry.{Entry}
-use Rattle.rules.specs.State.{Group}
-use Rattle.rules.specs.Page.{Page, start_rows, read_entry, page_of}
-use Rattle.rules.specs.Page as G
-use Rattle.rules.proofs.Page.{start_length}
-use Rattle.store.specs.Store.{Row, groups_of, row_at, rows_in, rows_of, state_of}
-use Rattle.store.proofs.RowLaws.{length_rows, rows_more}
-use Rattle.page.specs.Words.{listed, SmallRows}
-use Rattle.page.specs.Walk.{of_stage, walk, ReadRow}
-use Rattle.page.proofs.RowWords.{length_listed}
-use Rattle.page.proofs.Walks.{walk_stages, walk_more}
-use Rattle.page.proofs.Bounds.{start, walk_length, small_rows}
+use Rattle.std.specs.List.{position_or_len}
+use Rattle.std.specs.Option.{option_flatten}
+use Rattle.std.proofs.lemmas.List.{take_more}
+use Rattle.laws.specs.Lists.{index_of}
+use Rattle.rules.specs.declared.entry.Entry.{Entry}
+use Rattle.rules.specs.declared.state.Group.{Group}
+use Rattle.rules.specs.Entry.{is_sample}
+use Rattle.rules.specs.Page.{Page, counted, in_row, at_row, row_of, start_rows, empty_row, read_entry, read_all}
+use Rattle.rules.specs.Page as P
+use Rattle.page.specs.Rows.{row_as, rows_as, FewIn, Few, ReadRows}
+use Rattle.page.specs.declared.row.Row.{Row}
 
--- what stands behind the rows
-behind : (rs : List (Option G.Row)) (x : List ℕ) (n : ℕ) → length rs ≡ n → drop (n * 4) (listed rs x) ≡ x
-unfolding listed
-behind [] x zero e = refl
-behind [] x (suc n) e = absurd (omega arith)
-behind (o ∷ rs) x zero e = absurd (omega arith)
-behind (o ∷ rs) x (suc n) e = let q : suc n * 4 ≡ suc (suc (suc (suc (n * 4)))) = omega arith in ap (λ k. drop k (listed (o ∷ rs) x)) q ∙ behind rs x n (omega (arith, e))
+-- ---- the place of a group
 
-module _ (gs : List Group) where
-  stage_read : (k : ℕ) (e : Entry ℕ) (p : Page) → (of_stage k gs e p).read ≤ suc p.read
-  unfolding read_entry
-  stage_read zero e p = omega arith
-  stage_read (suc zero) e p = omega arith
-  stage_read (suc (suc k)) e p = omega arith
+place_same : {A : Type 0} (p : A → Bool) (l : List A) → position_or_len p l ≡ index_of p l
+unfolding index_of
+place_same p [] = refl
+place_same p (a ∷ l) =
+    let i : 1 + position_or_len p l ≡ suc (index_of p l) = omega (arith, place_same p l) in
+    elim (p a) as (λ b. cond (not b) (1 + position_or_len p l) 0 ≡ cond b 0 (suc (index_of p l))) [ true ↦ refl | false ↦ i ]
 
-  walk_read : (l : List Row) (p : Page) → (walk gs l p).read ≤ p.read + length l
-  unfolding walk
-  walk_read [] p = omega arith
-  walk_read (x ∷ l) p = omega (arith, walk_read l (of_stage x.stage gs x.entry p), stage_read x.stage x.entry p)
+pub index_within : {A : Type 0} (p : A → Bool) (l : List A) → index_of p l ≤ length l
+unfolding index_of
+index_within p [] = omega arith
+index_within p (a ∷ l) = let ih = index_within p l in elim (p a) as (λ b. cond b 0 (suc (index_of p l)) ≤ suc (length l)) [ true ↦ omega arith | false ↦ omega arith ]
 
-module _ (w : List ℕ) where
-  abbrev sofar : ℕ → Page
-  sofar i = walk (groups_of w) (rows_in i w) (start (groups_of w))
+pub index_place : {A : Type 0} (p : A → Bool) (l : List A) → unwrap_or (cond (ltb (position_or_len p l) (length l)) (Some (position_or_len p l)) None) (length l) ≡ index_of p l
+unfolding index_of
+index_place p l =
+    let i = index_of p l in
+    rw (place_same p l)
+    ((elim (ltb i (length l)) as (λ b. ltb i (length l) ≡ b → unwrap_or (cond b (Some i) None) (length l) ≡ i) [ true ↦ λ e. refl | false ↦ λ e. omega (arith, ltb-false i (length l) e, index_within p l) ]) refl)
 
-  -- the list l held the rows before the walk; now it is m, and r entries are read
-  pub record Reading (i : ℕ) (l m : List ℕ) (r : ℕ) : Type 0 where
-    pub rows : m ≡ listed (sofar i).rows (drop 256 l)
-    pub read : r ≡ (sofar i).read
+-- ---- how many samples a row counts
 
-  long : (i : ℕ) → length (sofar i).rows ≡ 64
-  long i = walk_length (groups_of w) (rows_in i w) (start (groups_of w)) ∙ start_length 8 (groups_of w)
+few_mono_in : (m n : ℕ) (o : Option P.Row) → m ≤ n → FewIn m o → FewIn n o
+few_mono_in m n None h f = f
+few_mono_in m n (Some r) h f = (omega (arith, f.0), omega (arith, f.1))
 
-  pub reading_none : (l x : List ℕ) → l ≡ listed (start_rows 8 (groups_of w)) x → Reading 0 l l 0
-  unfolding rows_in walk
-  reading_none l x e = record {
-    rows = e ∙ ap (listed (start_rows 8 (groups_of w))) (sym (ap (drop 256) e ∙ behind (start_rows 8 (groups_of w)) x 64 (start_length 8 (groups_of w))));
-    read = refl;
-  }
+pub few_mono : (m n : ℕ) (l : List (Option P.Row)) → m ≤ n → Few m l → Few n l
+few_mono m n [] h f = f
+few_mono m n (o ∷ l) h f = (few_mono_in m n o h f.0, few_mono m n l h f.1)
 
-  module _ (i : ℕ) (l m : List ℕ) (r : ℕ) (h : Reading i l m r) where
-    pub reading_long : 256 ≤ length m
-    reading_long = omega (arith, ap length h.rows, length_listed (sofar i).rows (drop 256 l), long i)
+few_counted : (n : ℕ) (b : Bool) (t : ℕ) (o : Option P.Row) → FewIn n o → FewIn (suc n) (in_row (counted b t) o)
+few_counted n b t None f = f
+few_counted n true t (Some r) f = (omega (arith, f.0), omega (arith, f.1))
+few_counted n false t (Some r) f = (omega (arith, f.0), omega (arith, f.1))
 
-    pub reading_small : i ≤ 256 → SmallRows m
-    reading_small b = subst (λ x. SmallRows x) (sym h.rows) (small_rows (groups_of w) (rows_in i w) (drop 256 l) (omega (arith, length_rows i w (omega arith))) (long i))
+few_row : (k n : ℕ) (b : Bool) (t : ℕ) (l : List (Option P.Row)) → Few n l → Few (suc n) (at_row k (counted b t) l)
+unfolding at_row
+few_row k n b t [] f = f
+few_row zero n b t (o ∷ l) f = (few_counted n b t o f.0, few_mono n (suc n) l (omega arith) f.1)
+few_row (suc k) n b t (o ∷ l) f = (few_mono_in n (suc n) o (omega arith) f.0, few_row k n b t l f.1)
 
-    pub reading_few : i ≤ 256 → r ≤ i
-    reading_few b = omega (arith, h.read, walk_read (groups_of w) (rows_in i w) (start (groups_of w)), length_rows i w (omega arith))
+pub few_at : (n : ℕ) (l : List (Option Row)) (k : ℕ) (r : Row) → Few n (rows_as l) → option_flatten (slice_get l k) ≡ Some r → (r.pending ≤ n) × (r.held ≤ n)
+few_at n [] k r f e = let z : ⊥ = cc in absurd z
+few_at n (o ∷ l) zero r f e = subst (λ x. FewIn n (option_map (λ y. row_as y) x)) e f.0
+few_at n (o ∷ l) (suc k) r f e = few_at n l k r f.1 e
 
-    pub reading_more : (n : ℕ) (o : List ℕ) → i < 256 → ReadRow (groups_of w) (row_at i w) m n o → Reading (i + 1) l o (r + n)
-    unfolding ReadRow
-    reading_more n o b f =
-        let x : Row = row_at i w in
-        let y : sofar (i + 1) ≡ of_stage x.stage (groups_of w) x.entry (sofar i) = ap (λ k. walk (groups_of w) k (start (groups_of w))) (rows_more i w (omega arith)) ∙ walk_more (groups_of w) (rows_in i w) x (start (groups_of w)) in
-        let g = f (sofar i) (drop 256 l) (long i) h.rows in
-        record {
-          rows = g.0 ∙ ap (λ p. listed p.rows (drop 256 l)) (sym y);
-          read = ap (λ k. k + n) h.read ∙ g.1 ∙ ap (λ p. p.read) (sym y);
-        }
+few_rows : (m n : ℕ) (o : Option P.Row) (l : List (Option P.Row)) → FewIn n o → Few n l → Few n (replicate m o ++ l)
+few_rows zero n o l f g = g
+few_rows (suc m) n o l f g = (f, few_rows m n o l f g)
 
-  -- every row in use is read: the page
-  page_of_lem : walk (groups_of w) (rows_of w) (start (groups_of w)) ≡ page_of (state_of w)
-  unfolding page_of state_of
-  page_of_lem = walk_stages (groups_of w) (rows_of w) (start (groups_of w))
+pub few_start : (k : ℕ) (gs : List Group) → Few 0 (start_rows k gs)
+unfolding start_rows empty_row
+few_start zero gs = tt {0}
+few_start (suc k) [] = few_rows 8 0 None (start_rows k []) (tt {0}) (few_start k [])
+few_start (suc k) (g ∷ gs) = few_rows 8 0 (Some empty_row) (start_rows k gs) (omega arith, omega arith) (few_start k gs)
 
-  module _ (n : ℕ) (l x m : List ℕ) (r : ℕ) (e : n ≡ min (get_or w 2 0) 256) (f : l ≡ listed (start_rows 8 (groups_of w)) x) (h : Reading n l m r) where
-    all_read : sofar n ≡ page_of (state_of w)
-    unfolding rows_of
-    all_read = ap (λ k. walk (groups_of w) (rows_in k w) (start (groups_of w))) e ∙ page_of_lem
+module _ (b : Bool) (gs : List Group) where
+  few_all : (n : ℕ) (es : List (Entry ℕ)) (p : Page) → Few n p.rows → Few (n + length es) (read_all b gs es p).rows
+  unfolding read_all read_entry
+  few_all n [] p f = few_mono n (n + 0) p.rows (omega arith) f
+  few_all n (e ∷ es) p f =
+      few_mono (suc n + length es) (n + suc (length es)) _ (omega arith)
+      (few_all (suc n) es (read_entry b gs e p) (elim (is_sample e) as (λ c. Few (suc n) (cond c (at_row (row_of gs e) (counted b e.time) p.rows) p.rows)) [ true ↦ few_row (row_of gs e) n b e.time p.rows f | false ↦ few_mono n (suc n) p.rows (omega arith) f ]))
 
-    pub read_rows : m ≡ listed (page_of (state_of w)).rows x
-    read_rows = h.rows ∙ ap (λ p. listed p.rows (drop 256 l)) all_read ∙ ap (listed (page_of (state_of w)).rows) (ap (drop 256) f ∙ behind (start_rows 8 (groups_of w)) x 64 (start_length 8 (groups_of w)))
+  -- after so many entries each row counts no more
+  pub few_then : (m n : ℕ) (es : List (Entry ℕ)) (l k : List (Option Row)) → Few m (rows_as l) → ReadRows b gs es l k → m + length es ≤ n → Few n (rows_as k)
+  few_then m n es l k f r h =
+      let p : Page = record { rows = rows_as l; read = 0 } in
+      few_mono (m + length es) n (rows_as k) h (subst (λ x. Few (m + length es) x) (sym (r p refl)) (few_all m es p f))
 
-    pub read_count : r ≡ (page_of (state_of w)).read
-    read_count = h.read ∙ ap (λ p. p.read) all_read
+  -- ---- one entry
+
+  pub read_sample : (e : Entry ℕ) (l m : List (Option Row)) → is_sample e ≡ true → rows_as m ≡ at_row (row_of gs e) (counted b e.time) (rows_as l) → ReadRows b gs (e ∷ []) l m
+  unfolding read_all read_entry
+  read_sample e l m s h p q = rw (s, q) h
+
+  pub read_end : (e : Entry ℕ) (l : List (Option Row)) → is_sample e ≡ false → ReadRows b gs (e ∷ []) l l
+  unfolding read_all read_entry
+  read_end e l s p q = rw s (sym q)
+
+  -- ---- one entry more
+
+  read_append : (es fs : List (Entry ℕ)) (p : Page) → read_all b gs (es ++ fs) p ≡ read_all b gs fs (read_all b gs es p)
+  unfolding read_all
+  read_append [] fs p = refl
+  read_append (e ∷ es) fs p = read_append es fs (read_entry b gs e p)
+
+  pub read_none : (l : List (Option Row)) → ReadRows b gs [] l l
+  unfolding read_all
+  read_none l p q = sym q
+
+  pub read_more : (es : List (Entry ℕ)) (i : ℕ) (d : Entry ℕ) (l m n : List (Option Row)) → i < length es → ReadRows b gs (take i es) l m → ReadRows b gs (get_or es i d ∷ []) m n → ReadRows b gs (take (i + 1) es) l n
+  read_more es i d l m n h f g p q =
+      g (read_all b gs (take i es) p) (sym (f p q))
+      ∙ sym (ap (λ x. x.rows) (read_append (take i es) (get_or es i d ∷ []) p))
+      ∙ ap (λ x. (read_all b gs x p).rows) (sym (take_more es i d h))
+
+-- ---- a row of the code, written
+
+module _ (f : P.Row → P.Row) where
+  pub at_put : (l : List (Option Row)) (k : ℕ) (r s : Row) → option_flatten (slice_get l k) ≡ Some r → row_as s ≡ f (row_as r) → rows_as (set l k (Some s)) ≡ at_row k f (rows_as l)
+  unfolding at_row
+  at_put [] k r s e h = let z : ⊥ = cc in absurd z
+  at_put (o ∷ l) zero r s e h = rw e (ap (λ x. Some x ∷ rows_as l) h)
+  at_put (o ∷ l) (suc k) r s e h = ap (λ x. option_map (λ y. row_as y) o ∷ x) (at_put l k r s e h)
+
+  -- none there, or no row of a known group
+  pub at_none : (l : List (Option Row)) (k : ℕ) → option_flatten (slice_get l k) ≡ None → rows_as l ≡ at_row k f (rows_as l)
+  unfolding at_row
+  at_none [] k e = refl
+  at_none (o ∷ l) zero e = rw e
+  at_none (o ∷ l) (suc k) e = ap (λ x. option_map (λ y. row_as y) o ∷ x) (at_none l k e)

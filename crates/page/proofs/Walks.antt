@@ -1,23 +1,20 @@
--- The walk over the rows of the store: it comes to the page, its counts stay below the rows read.
-use Prim.Native.Nat.{ℕ, zero, suc, ◌+◌}
+-- Pending and held entries read in any order come to the same page: the pending ones first, then the held ones.
+use Prim.Native.Nat.{ℕ, zero, suc}
 use mathlib.Core.Path.{◌≡◌, refl, sym, ap, ◌∙◌}
-use mathlib.Core.Bool.{Bool, true, false, cond, and-true}
-use mathlib.Core.List.{List, [], ◌∷◌, ◌++◌, map}
+use mathlib.Core.Bool.{Bool, true, false, cond}
+use mathlib.Core.List.{List, [], ◌∷◌, map}
 use Rattle.std.specs.Prelude.{Option, Some, None}
 use native.Mathlib.Omega.{arith}
 use lib.Dec.{eqb}
-use borrow.Author.Tests.{ne_eqb, eqb-false}
-use Rattle.laws.specs.Lists.{keep}
-use Rattle.rules.specs.Entry.{Entry, is_sample}
-use Rattle.rules.specs.State.{Group}
+use borrow.Author.Tests.{ne_eqb}
+use Rattle.laws.specs.Lists.{filter}
+use Rattle.rules.specs.Entry.{is_sample}
+use Rattle.rules.specs.declared.entry.Entry.{Entry}
+use Rattle.rules.specs.declared.state.Group.{Group}
 use Rattle.rules.specs.Page.{Page, counted, in_row, at_row, row_of, read_entry, read_all}
 use Rattle.rules.specs.Page as G
 use Rattle.rules.proofs.PageRow.{older_swap}
-use Rattle.store.specs.Store.{Row, staged}
-use Rattle.store.specs.Records.{Asks, fits}
-use Rattle.store.specs.declared.query.Query.{Query}
-use Rattle.page.specs.Words.{listed, Noted}
-use Rattle.page.specs.Walk.{of_stage, walk, NotedEntry, ReadRow}
+use Rattle.page.specs.Walk.{Row, staged, of_stage, walk}
 
 -- ---- two samples in either order
 
@@ -56,61 +53,13 @@ module _ (gs : List Group) where
 
   -- the pending entries first, then the held ones: the same
   pub walk_stages : (l : List Row) (p : Page) → walk gs l p ≡ read_all false gs (staged 1 l) (read_all true gs (staged 0 l) p)
-  unfolding walk staged keep read_all
+  unfolding walk staged read_all
   walk_stages [] p = refl
   walk_stages (x ∷ l) p = walk_stages l (of_stage x.stage gs x.entry p) ∙ at_stage x.stage refl
     where
-      at_stage : (k : ℕ) → x.stage ≡ k → read_all false gs (staged 1 l) (read_all true gs (staged 0 l) (of_stage k gs x.entry p)) ≡ read_all false gs (map (λ r. r.entry) (cond (eqb k 1) (x ∷ keep (λ r. eqb r.stage 1) l) (keep (λ r. eqb r.stage 1) l))) (read_all true gs (map (λ r. r.entry) (cond (eqb k 0) (x ∷ keep (λ r. eqb r.stage 0) l) (keep (λ r. eqb r.stage 0) l))) p)
+      at_stage : (k : ℕ) → x.stage ≡ k → read_all false gs (staged 1 l) (read_all true gs (staged 0 l) (of_stage k gs x.entry p)) ≡ read_all false gs (map (λ r. r.entry) (cond (eqb k 1) (x ∷ filter (λ r. eqb r.stage 1) l) (filter (λ r. eqb r.stage 1) l))) (read_all true gs (map (λ r. r.entry) (cond (eqb k 0) (x ∷ filter (λ r. eqb r.stage 0) l) (filter (λ r. eqb r.stage 0) l))) p)
       at_stage zero h = refl
       at_stage (suc zero) h = ap (λ q. read_all false gs (staged 1 l) q) (all_swap true false x.entry (staged 0 l) p)
       at_stage (suc (suc k)) h =
-          let put : Bool → Bool → Page = λ a b. read_all false gs (map (λ r. r.entry) (cond a (x ∷ keep (λ r. eqb r.stage 1) l) (keep (λ r. eqb r.stage 1) l))) (read_all true gs (map (λ r. r.entry) (cond b (x ∷ keep (λ r. eqb r.stage 0) l) (keep (λ r. eqb r.stage 0) l))) p) in
+          let put : Bool → Bool → Page = λ a b. read_all false gs (map (λ r. r.entry) (cond a (x ∷ filter (λ r. eqb r.stage 1) l) (filter (λ r. eqb r.stage 1) l))) (read_all true gs (map (λ r. r.entry) (cond b (x ∷ filter (λ r. eqb r.stage 0) l) (filter (λ r. eqb r.stage 0) l))) p) in
           sym (ap (λ a. put a (eqb (suc (suc k)) 0)) (ne_eqb (suc (suc k)) 1 (λ z. omega (arith, z))) ∙ ap (λ b. put false b) (ne_eqb (suc (suc k)) 0 (λ z. omega (arith, z))))
-
-  -- one row more
-  pub walk_more : (l : List Row) (x : Row) (p : Page) → walk gs (l ++ (x ∷ [])) p ≡ of_stage x.stage gs x.entry (walk gs l p)
-  unfolding walk
-  walk_more [] x p = refl
-  walk_more (y ∷ l) x p = walk_more l x (of_stage y.stage gs y.entry p)
-
--- ---- a row of the store, read
-
--- what a query for all of a stage says of a row
-pub of_stage_lem : (q : Query) (k : ℕ) (x : Row) (r : Bool) → Asks q k (λ e. true) → r ≡ fits q x → eqb x.stage k ≡ r
-of_stage_lem q k x r a f = sym (f ∙ a x ∙ and-true (eqb x.stage k))
-
-module _ (gs : List Group) (x : Row) where
-  pub read_stage : (k : ℕ) (b : Bool) → ((e : Entry ℕ) (p : Page) → read_entry b gs e p ≡ of_stage k gs e p) → (e : Entry ℕ) (l m : List ℕ) → x.stage ≡ k → e ≡ x.entry → NotedEntry gs e b l m → ReadRow gs x l 1 m
-  unfolding NotedEntry ReadRow
-  read_stage k b same e l m s q h p t n w =
-      let y : read_entry b gs e p ≡ of_stage x.stage gs x.entry p = ap (λ z. read_entry b gs z p) q ∙ same x.entry p ∙ ap (λ z. of_stage z gs x.entry p) (sym s) in
-      let r : p.read + 1 ≡ (read_entry b gs e p).read = one b e p in
-      (h p t n w ∙ ap (λ z. listed z.rows t) y, r ∙ ap (λ z. z.read) y)
-    where
-      one : (b : Bool) (e : Entry ℕ) (p : Page) → p.read + 1 ≡ (read_entry b gs e p).read
-      one b e p = unfold read_entry in omega arith
-
-  pub read_gone : (l : List ℕ) → eqb x.stage 0 ≡ false → eqb x.stage 1 ≡ false → ReadRow gs x l 0 l
-  unfolding ReadRow
-  read_gone l a b p t n w =
-      let y : p ≡ of_stage x.stage gs x.entry p = gone x.stage (eqb-false x.stage 0 a) (eqb-false x.stage 1 b) in
-      let r : p.read + 0 ≡ p.read = omega arith in
-      (w ∙ ap (λ z. listed z.rows t) y, r ∙ ap (λ z. z.read) y)
-    where
-      gone : (k : ℕ) → (k ≡ 0 → ⊥) → (k ≡ 1 → ⊥) → p ≡ of_stage k gs x.entry p
-      gone zero h i = absurd (h refl)
-      gone (suc zero) h i = absurd (i refl)
-      gone (suc (suc k)) h i = refl
-
--- ---- an entry, noted
-
-module _ (gs : List Group) (e : Entry ℕ) (b : Bool) (l : List ℕ) where
-  pub noted_sample : (k : ℕ) (m : List ℕ) → is_sample e ≡ true → k ≡ row_of gs e → Noted k b e.time l m → NotedEntry gs e b l m
-  unfolding NotedEntry Noted read_entry
-  noted_sample k m s q h p t n w =
-      h p.rows t n w ∙ ap (λ j. listed (at_row j (counted b e.time) p.rows) t) q
-      ∙ ap (λ c. listed (cond c (at_row (row_of gs e) (counted b e.time) p.rows) p.rows) t) (sym s)
-
-  pub noted_end : is_sample e ≡ false → NotedEntry gs e b l l
-  unfolding NotedEntry read_entry
-  noted_end s p t n w = w ∙ ap (λ c. listed (cond c (at_row (row_of gs e) (counted b e.time) p.rows) p.rows) t) (sym s)

@@ -1,124 +1,120 @@
 // The page: one walk over the stored entries.
-ghost use Rattle.std.specs.Prelude.{◌≡◌, cond, ◌+◌, ◌*◌, ◌≤◌, ltb, length, drop};
-ghost use Rattle.std.specs.Prelude.{Some, None};
-ghost use Rattle.rules.specs.Entry.{is_sample_w};
-ghost use Rattle.rules.specs.Page.{empty_row, start_rows};
-ghost use Rattle.store.specs.Store.{groups_of, row_at, state_of};
-ghost use Rattle.page.specs.Words.{words_of, listed, paged_as, page_to, SmallRows};
-ghost use Rattle.store.specs.Records.{entry_as, what_as};
-ghost use Rattle.page.specs.Walk.{NotedEntry, ReadRow};
+ghost use Rattle.std.specs.Prelude.{◌≡◌, ◌*◌, ◌≤◌, [], ◌∷◌, length, drop, slice_get};
+ghost use Rattle.std.specs.Option.{option_flatten};
+ghost use Rattle.refusals.specs.Refusal.{answer_as};
+ghost use Rattle.laws.specs.Lists.{index_of};
+ghost use Rattle.rules.specs.Entry.{is_sample};
+ghost use Rattle.rules.specs.State.{is_group};
+ghost use Rattle.rules.specs.Page.{row_of, start_rows, page_of};
+ghost use Rattle.store.specs.Store.{state_of};
+ghost use Rattle.page.specs.Rows.{rows_as, Few, ReadRows};
+ghost use Rattle.page.specs.Words.{listed, page_to};
 
-use crate::rows::{PageRow, ROW, ROWS, note_sample, put_row};
-use guids::key::pack;
-use store::coding::read_entry;
-use store::entry::{Entry, What};
-use store::groups::{find_group, group_count};
-use store::query::Query;
-use store::rows::{entry_count, fits_at};
-use store::words::Store;
+use crate::row::{Row, words_of};
+use refusals::Refusal;
+use rules::entry::{Entry, What};
+use store::Store;
 
-// The number of entries read, or why the list was not written.
-#[derive(Clone, Copy)]
-pub enum Paged {
-    Filled(usize),
-    ListTooShort,
-}
-
-// Row k before any entry is read, of which the first `known` are a group's.
-fn blank_row(k: usize, known: usize) -> PageRow
-    ensures { result ≡ words_of (cond (ltb k known) (Some empty_row) None) }
-{
-    if k < known {
-        return PageRow {
-            tag: 1,
-            pending: 0,
-            held: 0,
-            oldest: 0,
-        };
-    }
-    PageRow {
-        tag: 0,
-        pending: 0,
-        held: 0,
-        oldest: 0,
-    }
-}
+// Eight rows for each of eight groups, in the order of the GUIDs, readers ascending.
+type Page = [Option<Row>; 64];
 
 // Eight rows without samples for each known group, and absent ones behind.
-fn blank_rows(store: &Store, rows: &mut [u64])
-    requires { 256 ≤ length rows.old }
-    ensures { rows.new ≡ listed (start_rows 8 (groups_of store.now)) (drop 256 rows.old) }
+fn start_page(store: &Store) -> Page
+    ensures { rows_as result ≡ start_rows 8 (state_of store.now).groups }
 {
-    let known = group_count(store) * 8;
-    let mut k: usize = 0;
-    while k < ROWS {
-        put_row(rows, k, blank_row(k, known));
-        k += 1;
+    let mut page = [None; 64];
+    for k in 0..8 * store.groups.len() {
+        page[k] = Some(Row::default());
+    }
+    page
+}
+
+// The group's place among the known ones; that behind the last for an unknown group.
+fn place_of(store: &Store, group: [u8; 16]) -> usize
+    ensures place { result ≡ index_of (λ g. is_group group g) store.now.groups.items }
+    ensures within { result ≤ 8 }
+{
+    let known = store.groups.iter().position(|g| g.is(group));
+    known.unwrap_or(store.groups.len())
+}
+
+// The place of the row of the entry's group and reader. An unknown group's rows lie behind those of the known ones.
+#[tactic(auto, unfolding(rules::specs::Page::row_of))]
+fn row_of(store: &Store, e: &Entry<u32>) -> usize
+    ensures { result ≡ row_of (state_of store.now).groups e.now }
+{
+    let reader = e.reader;
+    8 * place_of(store, e.group) + usize::from(reader)
+}
+
+#[tactic(auto, unfolding(rules::specs::Entry::is_sample))]
+fn is_sample(e: &Entry<u32>) -> bool
+    ensures { result ≡ is_sample e.now }
+{
+    matches!(e.what, What::Sample(_))
+}
+
+// The row at that place; none if it is absent, or past the last.
+fn row_at(page: &Page, k: usize) -> Option<Row>
+    ensures { result ≡ option_flatten (slice_get page.now k) }
+{
+    page.get(k).copied().flatten()
+}
+
+// A sample is counted in its row, an end nowhere.
+fn read_entry(page: &mut Page, store: &Store, e: &Entry<u32>, pending: bool)
+    requires { Few 512 (rows_as page.old) }
+    ensures { ReadRows pending (state_of store.now).groups (e.now ∷ []) page.old page.new }
+{
+    if is_sample(e) {
+        let k = row_of(store, e);
+        if let Some(row) = row_at(page, k) {
+            page[k] = Some(row.counted(pending, e.time));
+        }
     }
 }
 
-fn is_sample(what: What) -> bool
-    ensures { result ≡ is_sample_w (what_as what) }
+fn read_all(page: &mut Page, store: &Store, entries: &[Entry<u32>], pending: bool)
+    requires few { Few 256 (rows_as page.old) }
+    requires count { length entries.now ≤ 256 }
+    ensures { ReadRows pending (state_of store.now).groups entries.now page.old page.new }
 {
-    match what {
-        What::Sample(_) => true,
-        What::End(_) => false,
+    for e in entries {
+        read_entry(page, store, e, pending);
     }
 }
 
-// The row of the group at that place and of the reader.
-fn row_of(group: usize, reader: u8) -> usize
-    requires { group ≤ 8 }
-    ensures { result ≡ 8 * group + reader }
+// The pending entries are read, then the held ones.
+fn page_of(store: &Store) -> Page
+    ensures { rows_as result ≡ (page_of (state_of store.now)).rows }
 {
-    group * 8 + reader as usize
+    let mut page = start_page(store);
+    read_all(&mut page, store, &store.pending, true);
+    read_all(&mut page, store, &store.sets.held, false);
+    page
 }
 
-// A sample is counted in the row of its group and reader, an end nowhere.
-fn note_entry(store: &Store, e: Entry, pending: bool, rows: &mut [u64])
-    requires { (256 ≤ length rows.old) × SmallRows rows.old }
-    ensures { NotedEntry (groups_of store.now) (entry_as e) pending rows.old rows.new }
+// The rows' words stand at the list's beginning.
+fn write(page: &[Option<Row>], list: &mut [u64])
+    requires { 4 * length page.now ≤ length list.old }
+    ensures { list.new ≡ listed (rows_as page.now) (drop (4 * length page.now) list.old) }
 {
-    let what = e.what;
-    if is_sample(what) {
-        let g = e.group;
-        let group = find_group(store, pack(g));
-        note_sample(rows, row_of(group, e.reader), pending, e.time);
+    for (k, row) in page.iter().enumerate() {
+        list[4 * k..4 * k + 4].copy_from_slice(&words_of(*row));
     }
-}
-
-// Reads row i of the store: 1 if an entry is stored there.
-fn read_row(store: &Store, i: usize, rows: &mut [u64]) -> usize
-    requires { (256 ≤ length rows.old) × SmallRows rows.old }
-    ensures { ReadRow (groups_of store.now) (row_at i store.now) rows.old result rows.new }
-{
-    if fits_at(store, i, Query::every(0)) {
-        note_entry(store, read_entry(store, i), true, rows);
-        return 1;
-    }
-    if fits_at(store, i, Query::every(1)) {
-        note_entry(store, read_entry(store, i), false, rows);
-        return 1;
-    }
-    0
 }
 
 // Fills the first 64 rows of four words (specs/Words.antt): for each group, in the order of the GUIDs, and each of its eight
-// readers the samples pending, those held in sets, and their oldest offer time in nanoseconds.
-pub fn fill_page(store: &Store, rows: &mut [u64]) -> Paged
-    ensures { (paged_as result, rows.new) ≡ page_to (state_of store.now) rows.old }
+// readers the samples pending, those held in sets, and their oldest offer time in nanoseconds. Answers the number of entries read.
+pub fn fill_page(store: &Store, rows: &mut [u64]) -> Result<usize, Refusal>
+    ensures { (answer_as result, rows.new) ≡ page_to (state_of store.now) rows.old }
 {
-    let short = rows.len() / ROW < ROWS;
+    let short = rows.len() < 256;
     if short {
-        return Paged::ListTooShort;
+        return Err(Refusal::ListTooShort);
     }
-    blank_rows(store, rows);
-    let n = entry_count(store);
-    let mut read: usize = 0;
-    let mut i: usize = 0;
-    while i < n {
-        read += read_row(store, i, rows);
-        i += 1;
-    }
-    Paged::Filled(read)
+    write(&page_of(store), rows);
+    let pending = store.pending.len();
+    let held = store.sets.held.len();
+    Ok(pending + held)
 }

@@ -2,4 +2,4 @@
 #![tactic(auto)]
 
 pub mod fill;
-mod rows;
+mod row;

@@ -1,89 +1,74 @@
 // The history of a subscriber that orders by group, and its turn: GroupOrdering of the source.
-ghost use Rattle.std.specs.Prelude.{◌≡◌};
+ghost use Rattle.std.specs.Prelude.{◌≡◌, option_map};
+ghost use Rattle.refusals.specs.Refusal.{answer_as};
 ghost use Rattle.rules.specs.State.{fresh};
 ghost use Rattle.rules.specs.Run.{waiting};
-ghost use Rattle.store.specs.Store.{state_of};
-ghost use Rattle.group_view.specs.View.{Steps};
-ghost use Rattle.turn.specs.Items.{brings, offer_item, ordered_as, OfferKept};
-ghost use Rattle.turn.specs.Turn.{turn_as, Turns, TurnKept, NotedReader, Applies};
+ghost use Rattle.release.specs.Released.{view_of};
+ghost use Rattle.turn.specs.Items.{brings, offer_item, OfferKept};
+ghost use Rattle.turn.specs.Turn.{turn_as, turn_to, TurnKept};
 
-use group_view::view::{DigestRow, Pair, note_digests, note_pairs};
 use history::order::GroupOrder;
-use turn::items::{GroupItem, Ordered, offer_item};
-use turn::turn_steps::{Progress, Turn, admits, apply_row, finish, goes, note_reader};
+use refusals::Refusal;
+use rules::call::Fate;
+use rules::view::{DigestRow, Pair};
+use std::marker::Model;
+use turn::items::{GroupItem, offer_item};
+use turn::rows::{Progress, Report};
+use turn::take::take_turn;
 
-fn note_readers(view: &mut [u64; 1307], rows: &[Progress])
-    ensures { Steps NotedReader rows.now view.old view.new }
-{
-    let mut i = 0;
-    while i < rows.len() {
-        note_reader(view, rows[i]);
-        i += 1;
-    }
-}
-
-fn apply_rows(store: &mut [u64; 6984], rows: &[Progress], go: bool)
-    ensures { Steps (Applies go) rows.now store.old store.new }
-{
-    let mut i = 0;
-    while i < rows.len() {
-        apply_row(store, rows[i], go);
-        i += 1;
-    }
-}
-
-// The history of a subscriber that orders by group.
-#[derive(Clone, Copy)]
+// Seen as its history's state.
+#[derive(Drop)]
 pub struct GroupOrdering {
-    pub words: [u64; 6984],
+    pub order: GroupOrder,
+}
+
+impl Model for GroupOrdering {
+    ghost use Rattle.std.specs.Prelude.{ℕ};
+    ghost use Rattle.rules.specs.State.{State};
+
+    ghost Value = { State ℕ };
+
+    ghost view = { λ ordering. ordering.order };
 }
 
 impl GroupOrdering {
     // Nothing known or stored; the timeout is one second.
     pub fn new() -> GroupOrdering
-        ensures { state_of result.words ≡ fresh 1000000000 }
+        ensures { result ≡ fresh 1000000000 }
     {
-        let order = GroupOrder::new(GroupOrder::GROUP_TIMEOUT);
-        let words = order.words;
-        GroupOrdering { words }
+        GroupOrdering {
+            order: GroupOrder::new(GroupOrder::GROUP_TIMEOUT),
+        }
     }
 
-    // Takes an item into the history, or gives it back where it has no group information.
-    pub fn offer(store: &mut [u64; 6984], item: GroupItem) -> Ordered
-        ensures is { (ordered_as result, state_of store.new) ≡ offer_item (state_of store.old) (brings item) }
-        ensures kept { OfferKept result store.old store.new }
+    // Takes an item into the history; with None it is given back, since it has no group information. Refused as an offer is.
+    pub fn offer(&mut self, item: GroupItem) -> Option<Result<Fate, Refusal>>
+        ensures is { (option_map (λ r. answer_as r) result, self.new) ≡ offer_item self.old (brings item) }
+        ensures kept { OfferKept (option_map (λ r. answer_as r) result) self.old self.new }
     {
-        offer_item(store, item)
+        offer_item(&mut self.order, item)
     }
 
-    // The samples of a reader that are pending or held.
-    pub fn held_for(store: &[u64; 6984], reader: u8) -> usize
-        ensures { result ≡ waiting (state_of store.now) reader }
+    // The samples of a reader that are pending or held; 0 of a reader above 7.
+    pub fn held_for(&self, reader: u8) -> usize
+        ensures { result ≡ waiting self.now reader }
     {
-        GroupOrder::held_for(store, reader)
+        self.order.held_for(reader)
     }
 
-    // The subscriber turn: the rows' heartbeats and gaps, then a release.
+    // The subscriber turn: the rows' heartbeats and gaps, then a release. Refused 9 (malformed rows, or a progress row with a reader above 7); where
+    // nothing waits it answers None and changes nothing; then refused 5 (a list shorter than the number of stored samples). Time in nanoseconds.
     pub fn release(
-        store: &mut [u64; 6984],
+        &mut self,
         rows: &[Progress],
         counted: &[Pair],
         digests: &[DigestRow],
         time: u64,
         out: &mut [u64],
-    ) -> Turn
-        ensures is { Turns store.old rows.now counted.now digests.now time out.old
-            result store.new out.new }
-        ensures kept { TurnKept (turn_as result) store.old store.new }
+    ) -> Result<Option<Report>, Refusal>
+        ensures is { (turn_as result, self.new, out.new) ≡ turn_to self.old rows.now (view_of counted.now digests.now) time out.old }
+        ensures kept { TurnKept (turn_as result) self.old self.new }
     {
-        let mut view = [0; 1307];
-        note_pairs(&mut view, counted);
-        note_digests(&mut view, digests);
-        note_readers(&mut view, rows);
-        let room = out.len();
-        let verdict = admits(store, &view, room);
-        let go = goes(verdict);
-        apply_rows(store, rows, go);
-        finish(store, &view, verdict, time, out)
+        take_turn(&mut self.order, rows, counted, digests, time, out)
     }
 }

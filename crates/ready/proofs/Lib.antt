@@ -1,3 +1,2 @@
-pub mod ReadyLaws
-pub mod Copying
-pub mod Asking
+pub mod Walks
+pub mod Readers

@@ -1,4 +1,59 @@
-// Whether a number is ready.
+// When the lowest pending number of a group is ready: passable and copies_arrived of the source.
 #![tactic(auto)]
 
-pub mod ready;
+ghost use Rattle.std.specs.Prelude.{◌≡◌, ◌||◌, suc, eqb};
+ghost use Rattle.rules.specs.Commit.{ruled_out, copies_arrived};
+ghost use Rattle.rules.specs.GroupTurn.{turn_as};
+ghost use Rattle.ready.specs.Places.{entries_at, copied};
+
+use crate::digests::digests_accepted;
+use crate::heads::Heads;
+use crate::past::{all_past, is_past};
+use guids::guid::same;
+use rules::entry::Entry;
+use rules::turn::GroupTurn;
+use rules::view::Pair;
+
+mod digests;
+mod heads;
+mod past;
+
+// Announced reaches the number, every digest is accepted, and every counted pair is past every number between committed and it.
+#[tactic(auto, unfolding(rules::specs::Commit::ruled_out))]
+fn is_ruled_out(turn: &GroupTurn<'_>, committed: u64, number: u64) -> bool
+    ensures { result ≡ ruled_out (turn_as turn.now) committed number }
+{
+    number <= turn.group.announced && digests_accepted(turn) && all_past(turn, committed, number)
+}
+
+// The number is the one behind committed, or those between are ruled out.
+pub fn is_passable(turn: &GroupTurn<'_>, committed: u64, number: u64) -> bool
+    ensures { result ≡ (eqb number (suc committed) || ruled_out (turn_as turn.now) committed number) }
+{
+    committed.checked_add(1) == Some(number) || is_ruled_out(turn, committed, number)
+}
+
+// The pair's reader has an entry or is past the number, or its writer has no entry.
+fn is_copied(turn: &GroupTurn<'_>, number: u64, heads: &Heads<'_>, p: &Pair) -> bool
+    ensures { result ≡ copied (turn_as turn.now) number (entries_at heads.now.pending.now heads.now.places.now) p.now }
+{
+    heads.has_reader(p.reader) || is_past(turn, p, number) || !heads.has_writer(p.writer)
+}
+
+// Of each of the number's entries, every counted reader of its writer has an entry or is past the number. The entries are those of `pending` at
+// the places `heads`.
+pub fn copies_arrived(
+    turn: &GroupTurn<'_>,
+    number: u64,
+    pending: &[Entry<u32>],
+    heads: &[usize],
+) -> bool
+    ensures { result ≡ copies_arrived (turn_as turn.now) number (entries_at pending.now heads.now) }
+{
+    let guid = turn.group.guid;
+    let heads = Heads::new(pending, heads);
+    turn.counted
+        .iter()
+        .filter(|p| same(guid, p.group))
+        .all(|p| is_copied(turn, number, &heads, p))
+}

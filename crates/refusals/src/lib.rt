@@ -1,4 +1,4 @@
-// Why a call is refused: the numbers of document 01.
+// Why a call is refused: the refusals of documents 01 and 02.
 #![tactic(auto)]
 
 ghost use Rattle.std.specs.Prelude.{◌≡◌};
@@ -24,7 +24,7 @@ pub enum Refusal {
 }
 
 impl Refusal {
-    // The number that the program prints.
+    // Its number in those documents.
     pub fn number(self) -> u64
         ensures { result ≡ number_of self }
     {

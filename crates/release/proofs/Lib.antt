@@ -1,3 +1,11 @@
-pub mod Repeating
-pub mod Releasing
-pub mod Answering
+pub mod Sorting
+pub mod Discarding
+pub mod Settling
+pub mod Knowing
+pub mod Committing
+pub mod Sorted
+pub mod Heads
+pub mod Repeats
+pub mod Finishing
+pub mod Heading
+pub mod Groups

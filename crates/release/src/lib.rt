@@ -1,5 +1,8 @@
-// The release: steps, rounds, and the call on a view's rows.
+// The release: in each group, in the order of the GUIDs, repetition by repetition until it stops there.
 #![tactic(auto)]
 
-pub mod commits;
+mod commit;
+mod group;
+mod order;
 pub mod release;
+mod stale;

@@ -10,12 +10,12 @@ use lib.Dec.{ltb, leb, eqb}
 use lib.ListN.{length}
 use borrow.Author.Tests.{not-true, leb-true, ltb-true, lt-ltb, le-ltb, eq-eqb, eqb-true, ne_eqb}
 use Rattle.laws.specs.Answer.{answered}
-use Rattle.laws.specs.Lists.{keep, all, count, find, nth}
+use Rattle.laws.specs.Lists.{filter, list_all, count, find, nth}
 use Rattle.guids.specs.Guid.{Guid, same_guid}
-use Rattle.rules.specs.Entry.{What, sample, set_end, Entry, is_sample, of_group}
+use Rattle.rules.specs.Entry.{What, Sample, End, set_end, Entry, is_sample, of_group}
 use Rattle.rules.specs.State.{State, fresh, is_writer, knows_group, knows_writer, committed_of, Writer}
 use Rattle.rules.specs.Marks.{number}
-use Rattle.rules.specs.Offer.{Offer, Fate, is_stored, is_joined, is_late, refusal, ninth, pair33, with_marks, entry_of, replaced, marked, mark_of, keep_end, join, fate_of, offer_refusal, place, heard_offer, offered, offer, done, heartbeat, gap}
+use Rattle.rules.specs.Offer.{Offer, Fate, Stored, Joined, Late, refusal, ninth, pair33, with_marks, entry_of, replaced, marked, mark_of, keep_end, join, fate_of, offer_refusal, place, heard_offer, offered, offer, done, heartbeat, gap}
 use Rattle.rules.specs.Release.{View, young, turn_of, work_of, back_to, released, release_refusal, released_if, release}
 use Rattle.rules.specs.Run.{Call, offers, heartbeats, gaps, releases, step}
 use Rattle.rules.specs.Names.{named, map_what, map_call, map_offer}
@@ -40,14 +40,14 @@ module _ {X : Type 0} where
   no_member q m e h = ap (λ (b : Bool). b && q (marked m e)) h
 
 module _ {X : Type 0} (q : Entry X → Bool) (blind : Blind q) where
-  placed : (f : Fate) (s : State X) (e : Entry X) → (f ≡ is_joined → is_sample e ≡ false) → total q (place f e s) ≤ total q s + count q (cond (stores (answered f)) (e ∷ []) [])
+  placed : (f : Fate) (s : State X) (e : Entry X) → (f ≡ Joined → is_sample e ≡ false) → total q (place f e s) ≤ total q s + count q (cond (stores (answered f)) (e ∷ []) [])
   unfolding total place join keep_end
-  placed is_stored s e h = omega (arith, count_last q s.pending e, count_cons q e [])
-  placed is_joined s e h =
-      let k : List (Entry X) = keep (λ h. not (replaced e h)) s.held in
+  placed Stored s e h = omega (arith, count_last q s.pending e, count_cons q e [])
+  placed Joined s e h =
+      let k : List (Entry X) = filter (λ h. not (replaced e h)) s.held in
       let m : Option ℕ = mark_of (find (λ h. replaced e h) s.held) in
       omega (arith, count_last (λ e. member_with q e) k (marked m e), weight_none _ (no_member q m e (h refl)), count_keep (λ h. not (replaced e h)) (λ e. member_with q e) s.held)
-  placed is_late s e h = omega arith
+  placed Late s e h = omega arith
 
   offer_fewer : (r : Option ℕ) (s : State X) (o : Offer X)
       → total q (offered r s o).1 ≤ total q s + count q (cond (stores (offered r s o).0) (entry_of o ∷ []) [])
@@ -97,7 +97,7 @@ module _ {X : Type 0} where
   brings_now last s (offers o) = (elim (stores (offer s o).0) as (λ b. count (λ e. later (clocked last (cond b (Some o.time) None)) e) (cond b (entry_of o ∷ []) []) ≡ 0) [
     | true ↦
         count_zero (λ e. later o.time e) (λ e. eqb e.time o.time) (λ e h. le-ltb o.time e.time (omega (arith, eqb-true))) (entry_of o ∷ [])
-        (unfold all entry_of in and_true _ true (eq-eqb o.time o.time refl) refl)
+        (unfold entry_of in and_true _ true (eq-eqb o.time o.time refl) refl)
     | false ↦ count_nil _
   ])
   brings_now last s (heartbeats h) = count_nil _
@@ -199,10 +199,10 @@ module _ (k : ℕ) (g : Guid) (n : ℕ) where
   pending_at : (s : State (ℕ × ℕ)) → is_pending k s ≡ true → total (λ e. astray e) s ≡ 0 → 1 ≤ count (λ e. is_at g n e) s.pending
   unfolding is_pending total
   pending_at s h z =
-      let a : count (λ e. has_name k e) (keep (λ e. not (is_at g n e)) s.pending) ≡ count (λ e. astray e) s.pending =
+      let a : count (λ e. has_name k e) (filter (λ e. not (is_at g n e)) s.pending) ≡ count (λ e. astray e) s.pending =
       (unfold count astray in ap length (keep_keep (λ e. has_name k e) (λ e. not (is_at g n e)) s.pending)) in
-      let b : count (λ e. has_name k e) (keep (λ e. is_at g n e) s.pending) ≤ count (λ e. is_at g n e) s.pending =
-      (unfold count in length_keep (λ e. has_name k e) (keep (λ e. is_at g n e) s.pending)) in
+      let b : count (λ e. has_name k e) (filter (λ e. is_at g n e) s.pending) ≤ count (λ e. is_at g n e) s.pending =
+      (unfold count in length_keep (λ e. has_name k e) (filter (λ e. is_at g n e) s.pending)) in
       omega (arith, count_any (λ e. has_name k e) s.pending h, count_split (λ e. is_at g n e) (λ e. has_name k e) s.pending)
 
   -- the run so far, at clock time t with j releases counted and a accepted. An entry is owed if it is stored, of the group, up to the
@@ -211,7 +211,7 @@ module _ (k : ℕ) (g : Guid) (n : ℕ) where
     reached : Reached s
     clock : clock_holds t s cs ≡ true
     nonempty : never_empty s cs ≡ true
-    fit : all (λ c. fitting c) cs ≡ true
+    fit : list_all (λ c. fitting c) cs ≡ true
     times : total (λ e. later t e) s ≡ 0
     names : total (λ e. astray e) s ≡ 0
     paid : j + total (λ e. is_owed g n (since last) e) s ≤ count (λ e. is_up_to g n e) a
@@ -224,7 +224,7 @@ module _ (k : ℕ) (g : Guid) (n : ℕ) where
   -- a call keeps it so; a counted release had one owed before it and leaves none
   on : (last : Option ℕ) (s : State (ℕ × ℕ)) (c : Call (ℕ × ℕ)) (cs : List (Call (ℕ × ℕ))) (t j : ℕ) (a : List (Entry (ℕ × ℕ)))
       → Going last s (c ∷ cs) t j a → Going last (step s c).1 cs (clocked t (clock_of s c)) j (a ++ stores_in s c)
-  unfolding clock_holds never_empty all later is_owed
+  unfolding clock_holds never_empty later is_owed
   on last s c cs t j a y =
       let u : ℕ = clocked t (clock_of s c) in
       let (le, ck) = onward_on t (clock_of s c) (λ t. clock_holds t (step s c).1 cs) y.clock in
@@ -277,8 +277,8 @@ module _ (k : ℕ) (g : Guid) (n : ℕ) where
 -- ---- the names
 
 name_other : (k j : ℕ) (w : What ℕ) → (k ≡ j → ⊥) → has_name_w k (map_what (λ i. (j, i)) w) ≡ false
-name_other k j (sample x) h = ne_eqb k j h
-name_other k j (set_end f o) h = refl
+name_other k j (Sample x) h = ne_eqb k j h
+name_other k j (End u) h = refl
 
 module _ (g : Guid) (n : ℕ) where
   -- a call at another place offers no sample of the name
@@ -289,8 +289,8 @@ module _ (g : Guid) (n : ℕ) where
   other_fits k j (gaps x) h = refl
   other_fits k j (releases now v l) h = refl
 
-  later_fit : (k j : ℕ) (cs : List (Call ℕ)) → k < j → all (λ c. fitting k g n c) (named j cs) ≡ true
-  unfolding named all
+  later_fit : (k j : ℕ) (cs : List (Call ℕ)) → k < j → list_all (λ c. fitting k g n c) (named j cs) ≡ true
+  unfolding named
   later_fit k j [] h = refl
   later_fit k j (c ∷ cs) h = and_true _ _ (other_fits k j c (λ e. omega arith)) (later_fit k (suc j) cs (omega arith))
 
@@ -300,8 +300,8 @@ own_fits k o = rw (same_refl o.group, eq-eqb (number o.number) (number o.number)
 
 -- the sample named by the place of o has o's group and number
 names_fit : (i j : ℕ) (cs : List (Call ℕ)) (o : Offer (ℕ × ℕ)) → nth i (named j cs) ≡ Some (offers o)
-    → all (λ c. fitting (j + i) o.group (number o.number) c) (named j cs) ≡ true
-unfolding named all nth
+    → list_all (λ c. fitting (j + i) o.group (number o.number) c) (named j cs) ≡ true
+unfolding named nth
 names_fit i j [] o h = refl
 names_fit zero j (c ∷ cs) o h =
     let e : map_call (λ i. (j, i)) c ≡ offers o = cc in
@@ -310,7 +310,7 @@ names_fit zero j (c ∷ cs) o h =
 names_fit (suc i) j (c ∷ cs) o h =
     let e : suc j + i ≡ j + suc i = omega arith in
     and_true _ _ (other_fits o.group (number o.number) (j + suc i) j c (λ e. omega arith))
-    (subst (λ k. all (λ c. fitting k o.group (number o.number) c) (named (suc j) cs) ≡ true) e (names_fit i (suc j) cs o h))
+    (subst (λ k. list_all (λ c. fitting k o.group (number o.number) c) (named (suc j) cs) ≡ true) e (names_fit i (suc j) cs o h))
 
 pub bound : (t : ℕ) (cs : List (Call ℕ)) → clock_holds 0 (fresh t) (named 0 cs) ≡ true → never_empty (fresh t) (named 0 cs) ≡ true
     → (k : ℕ) (o : Offer (ℕ × ℕ)) → nth k (named 0 cs) ≡ Some (offers o)
@@ -324,7 +324,7 @@ bound t cs clock nonempty k o h m d =
       reached = fresh_reached t;
       clock = clock;
       nonempty = nonempty;
-      fit = subst (λ i. all (λ c. fitting i g n c) (named 0 cs) ≡ true) (zero-add k) (names_fit k 0 cs o h);
+      fit = subst (λ i. list_all (λ c. fitting i g n c) (named 0 cs) ≡ true) (zero-add k) (names_fit k 0 cs o h);
       times = omega (arith, count_nil {A = Entry (ℕ × ℕ)} (λ e. later 0 e), count_nil {A = Entry (ℕ × ℕ)} (λ e. member_with (λ e. later 0 e) e));
       names = omega (arith, count_nil (λ e. astray k g n e), count_nil (λ e. member_with (λ e. astray k g n e) e));
       paid = omega (arith, count_nil {A = Entry (ℕ × ℕ)} (λ e. is_owed g n 0 e), count_nil {A = Entry (ℕ × ℕ)} (λ e. member_with (λ e. is_owed g n 0 e) e));

@@ -8,9 +8,9 @@ use Rattle.std.specs.Prelude.{Option, Some, None}
 use native.Mathlib.Omega.{arith}
 use lib.IntN.{ℤ}
 use lib.ListN.{length, length-append}
-use Rattle.laws.specs.Lists.{keep, all, count, find}
+use Rattle.laws.specs.Lists.{filter, list_all, count, find}
 use Rattle.guids.specs.Guid.{Guid}
-use Rattle.rules.specs.Entry.{What, sample, set_end, Entry, is_sample_w, is_sample, in_set, is_member, of_pair, marks}
+use Rattle.rules.specs.Entry.{What, Sample, End, set_end, Entry, is_sample_w, is_sample, in_set, is_member, of_pair, marks}
 use Rattle.rules.specs.State.{State, plus}
 use Rattle.rules.specs.Offer.{shares, replaced, marked, keep_end}
 use Rattle.rules.specs.Sets.{members_of, without}
@@ -46,19 +46,19 @@ module _ {X : Type 0} (q : Entry X → Bool) (only : OfSamples q) where
   -- a set's entries of the test are its members of the test
   members_split : (g : Guid) (z : ℤ) (l : List (Entry X)) → count q l ≡ count q (members_of g z l) + count q (without g z l)
   unfolding members_of without is_member
-  members_split g z l = omega (arith, count_split (λ h. in_set g z h) q l, ap (λ m. count q m) (sym (keep_keep (λ h. is_sample h) (λ h. in_set g z h) l)), count_kept (λ h. is_sample h) q only (keep (λ h. in_set g z h) l))
+  members_split g z l = omega (arith, count_split (λ h. in_set g z h) q l, ap (λ m. count q m) (sym (keep_keep (λ h. is_sample h) (λ h. in_set g z h) l)), count_kept (λ h. is_sample h) q only (filter (λ h. in_set g z h) l))
 
   -- a kept end and the one that it replaces count nothing
   pub keep_end_count : (m : Option ℕ) (e : Entry X) (l : List (Entry X)) → is_sample e ≡ false → count q (keep_end m e l) ≡ count q l
   unfolding keep_end marked is_sample
-  keep_end_count m e l h = omega (arith, count_append q (keep (λ x. not (replaced e x)) l) (marked m e ∷ []), count_one q (marked m e), weight_none (q (marked m e)) (not_sample (marked m e) h), count_split (λ x. replaced e x) q l, count_apart (λ x. replaced e x) q (λ a k. not_sample a (replaced_end e a k)) l)
+  keep_end_count m e l h = omega (arith, count_append q (filter (λ x. not (replaced e x)) l) (marked m e ∷ []), count_one q (marked m e), weight_none (q (marked m e)) (not_sample (marked m e) h), count_split (λ x. replaced e x) q l, count_apart (λ x. replaced e x) q (λ a k. not_sample a (replaced_end e a k)) l)
 
   settle_balanced : (n : ℕ) (e : Entry X) (l : List (Entry X)) (w : Work X) (x : What X) (y : Option ℤ) → e.what ≡ x → Balanced q n (e ∷ l) w → Balanced q n l (settle e w x y)
   unfolding Balanced stock with_out with_held is_sample
-  settle_balanced n e l w (sample x) None h b = omega (arith, count_cons q e l, count_append q w.out (e ∷ []), count_one q e)
-  settle_balanced n e l w (sample x) (Some z) h b = omega (arith, count_cons q e l, count_append q w.held (e ∷ []), count_one q e)
-  settle_balanced n e l w (set_end f o) None h b = omega (arith, count_cons q e l, weight_none (q e) (not_sample e (ap is_sample_w h)))
-  settle_balanced n e l w (set_end f o) (Some z) h b = omega (arith, count_cons q e l, weight_none (q e) (not_sample e (ap is_sample_w h)), keep_end_count (mark_or e.time (find (λ m. shares e m && marks m) w.held)) e w.held (ap is_sample_w h))
+  settle_balanced n e l w (Sample x) None h b = omega (arith, count_cons q e l, count_append q w.out (e ∷ []), count_one q e)
+  settle_balanced n e l w (Sample x) (Some z) h b = omega (arith, count_cons q e l, count_append q w.held (e ∷ []), count_one q e)
+  settle_balanced n e l w (End u) None h b = omega (arith, count_cons q e l, weight_none (q e) (not_sample e (ap is_sample_w h)))
+  settle_balanced n e l w (End u) (Some z) h b = omega (arith, count_cons q e l, weight_none (q e) (not_sample e (ap is_sample_w h)), keep_end_count (mark_or e.time (find (λ m. shares e m && marks m) w.held)) e w.held (ap is_sample_w h))
 
   balanced : (n : ℕ) → Stays (λ l w. Balanced q n l w)
   unfolding Balanced stock discard hand_out head_of at_group
@@ -82,19 +82,19 @@ module _ {X : Type 0} (q : Entry X → Bool) (only : OfSamples q) where
 module _ {X : Type 0} where
   -- ---- only samples are handed out and discarded
 
-  members_samples : (g : Guid) (z : ℤ) (l : List (Entry X)) → all (λ e. is_sample e) (members_of g z l) ≡ true
+  members_samples : (g : Guid) (z : ℤ) (l : List (Entry X)) → list_all (λ e. is_sample e) (members_of g z l) ≡ true
   unfolding members_of is_member
   members_samples g z l = all_imp (λ h. is_member g z h) (λ e. is_sample e) (λ h k. and_right (in_set g z h) (is_sample h) k) (members_of g z l) (all_kept (λ h. is_member g z h) l)
 
   unfoldable pub OnlySamples : List (Entry X) → Work X → Type 0
-  OnlySamples l w = (all (λ e. is_sample e) w.out ≡ true) × (all (λ e. is_sample e) w.lost ≡ true)
+  OnlySamples l w = (list_all (λ e. is_sample e) w.out ≡ true) × (list_all (λ e. is_sample e) w.lost ≡ true)
 
   settle_samples : (l m : List (Entry X)) (e : Entry X) (w : Work X) (x : What X) (y : Option ℤ) → e.what ≡ x → OnlySamples l w → OnlySamples m (settle e w x y)
-  unfolding OnlySamples with_out with_held is_sample all
-  settle_samples l m e w (sample x) None h b = (all_both (λ a. is_sample a) w.out (e ∷ []) b.0 (rw h), b.1)
-  settle_samples l m e w (sample x) (Some z) h b = b
-  settle_samples l m e w (set_end f o) None h b = b
-  settle_samples l m e w (set_end f o) (Some z) h b = b
+  unfolding OnlySamples with_out with_held is_sample
+  settle_samples l m e w (Sample x) None h b = (all_both (λ a. is_sample a) w.out (e ∷ []) b.0 (rw h), b.1)
+  settle_samples l m e w (Sample x) (Some z) h b = b
+  settle_samples l m e w (End u) None h b = b
+  settle_samples l m e w (End u) (Some z) h b = b
 
   pub only_samples : Stays OnlySamples
   unfolding OnlySamples discard hand_out at_group
@@ -112,14 +112,14 @@ module _ {X : Type 0} where
 
   -- it is the samples discarded before, d, and by this release, until it stops
   unfoldable pub Exact : ℕ → List (Entry X) → Work X → Type 0
-  Exact d l w = w.counts.discarded ≡ min (d + length w.lost) (2 ^ 64 - 1)
+  Exact d l w = w.counts.discarded_samples ≡ min (d + length w.lost) (2 ^ 64 - 1)
 
   settle_exact : (d : ℕ) (l m : List (Entry X)) (e : Entry X) (w : Work X) (x : What X) (y : Option ℤ) → Exact d l w → Exact d m (settle e w x y)
   unfolding Exact with_out with_held
-  settle_exact d l m e w (sample x) None b = b
-  settle_exact d l m e w (sample x) (Some z) b = b
-  settle_exact d l m e w (set_end f o) None b = b
-  settle_exact d l m e w (set_end f o) (Some z) b = b
+  settle_exact d l m e w (Sample x) None b = b
+  settle_exact d l m e w (Sample x) (Some z) b = b
+  settle_exact d l m e w (End u) None b = b
+  settle_exact d l m e w (End u) (Some z) b = b
 
   pub exact : (d : ℕ) → Stays (λ l w. Exact d l w)
   unfolding Exact discard hand_out discards plus skip at_group

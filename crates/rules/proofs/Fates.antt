@@ -9,11 +9,11 @@ use lib.Dec.{ltb, eqb}
 use lib.ListN.{length, length-append}
 use borrow.Author.Tests.{eq-eqb, ne_eqb}
 use Rattle.laws.specs.Answer.{answered}
-use Rattle.laws.specs.Lists.{all, any, count, find}
-use Rattle.rules.specs.Entry.{What, sample, set_end, Entry, is_sample_w, is_sample}
+use Rattle.laws.specs.Lists.{list_all, list_any, count, find}
+use Rattle.rules.specs.Entry.{What, Sample, End, set_end, Entry, is_sample_w, is_sample}
 use Rattle.rules.specs.State.{State, fresh, no_counts, committed_of}
 use Rattle.rules.specs.Marks.{number}
-use Rattle.rules.specs.Offer.{Offer, Fate, is_stored, is_joined, is_late, fate, one_late, with_marks, entry_of, shares, replaced, join, mark_of, fate_of, offer_refusal, place, heard_offer, offered, offer}
+use Rattle.rules.specs.Offer.{Offer, Fate, Stored, Joined, Late, fate, one_late, with_marks, entry_of, shares, replaced, join, mark_of, fate_of, offer_refusal, place, heard_offer, offered, offer}
 use Rattle.rules.specs.Release.{work_of, back_to}
 use Rattle.rules.specs.Run.{Call, offers, heartbeats, gaps, releases, step}
 use Rattle.rules.specs.Names.{map_what, map_offer, map_call, named}
@@ -22,17 +22,17 @@ use Rattle.laws.proofs.Lists.{and_left, and_last, and_never, not_true, weight_no
 use Rattle.rules.proofs.Stays.{released_stays, heartbeat_same, gap_same, release_cases, story_stays}
 use Rattle.rules.proofs.Conserve.{stock, OfSamples, keep_end_count, not_sample, released_stock, OnlySamples, only_samples, Exact, exact}
 
-pub fate_joined : (a b : Bool) → fate a b ≡ is_joined → b ≡ true
+pub fate_joined : (a b : Bool) → fate a b ≡ Joined → b ≡ true
 fate_joined true b e = cc
 fate_joined false true e = refl
 fate_joined false false e = cc
 
 -- only an end joins
-pub joined_end : {X : Type 0} (s : State X) (o : Offer X) → fate_of s o ≡ is_joined → is_sample (entry_of o) ≡ false
+pub joined_end : {X : Type 0} (s : State X) (o : Offer X) → fate_of s o ≡ Joined → is_sample (entry_of o) ≡ false
 unfolding fate_of entry_of is_sample
 joined_end s o e =
     let ends : Bool = not (is_sample_w o.what) in
-    let opened : Bool = any (λ h. shares (entry_of o) h) s.held in
+    let opened : Bool = list_any (λ h. shares (entry_of o) h) s.held in
     not_true (is_sample_w o.what) (and_left ends opened (fate_joined (ltb (committed_of o.group s.groups) (number o.number)) (ends && opened) e))
 
 module _ {X : Type 0} (q : Entry X → Bool) where
@@ -45,9 +45,9 @@ module _ {X : Type 0} (q : Entry X → Bool) (only : OfSamples q) where
       → count q (place f (entry_of o) (heard_offer o s)).pending + count q (place f (entry_of o) (heard_offer o s)).held
       ≡ count q s.pending + count q s.held + count q (cond (accepts (answered f)) (entry_of o ∷ []) [])
   unfolding place heard_offer with_marks join
-  place_count s o is_stored e = omega (arith, count_append q s.pending (entry_of o ∷ []))
-  place_count s o is_joined e = let h = joined_end s o e in omega (arith, keep_end_count q only (mark_of (find (λ h. replaced (entry_of o) h) s.held)) (entry_of o) s.held h, count_one q (entry_of o), weight_none (q (entry_of o)) (not_sample q only (entry_of o) h))
-  place_count s o is_late e = omega (arith, count_nil q)
+  place_count s o Stored e = omega (arith, count_append q s.pending (entry_of o ∷ []))
+  place_count s o Joined e = let h = joined_end s o e in omega (arith, keep_end_count q only (mark_of (find (λ h. replaced (entry_of o) h) s.held)) (entry_of o) s.held h, count_one q (entry_of o), weight_none (q (entry_of o)) (not_sample q only (entry_of o) h))
+  place_count s o Late e = omega (arith, count_nil q)
 
   -- an accepted offer adds its entry
   pub offer_count : (s : State X) (o : Offer X)
@@ -82,17 +82,17 @@ module _ {X : Type 0} where
   -- ---- only samples
 
   -- a call hands out and discards only samples
-  pub takes_samples : (s : State X) (c : Call X) → (all (λ e. is_sample e) (takes s c).out ≡ true) × (all (λ e. is_sample e) (takes s c).lost ≡ true)
-  unfolding takes OnlySamples all work_of
+  pub takes_samples : (s : State X) (c : Call X) → (list_all (λ e. is_sample e) (takes s c).out ≡ true) × (list_all (λ e. is_sample e) (takes s c).lost ≡ true)
+  unfolding takes OnlySamples work_of
   takes_samples s (offers o) = (refl, refl)
   takes_samples s (heartbeats h) = (refl, refl)
   takes_samples s (gaps g) = (refl, refl)
   takes_samples s (releases now v l) =
-      release_cases (λ r t. (all (λ e. is_sample e) r.out ≡ true) × (all (λ e. is_sample e) r.lost ≡ true)) s v now (length l)
+      release_cases (λ r t. (list_all (λ e. is_sample e) r.out ≡ true) × (list_all (λ e. is_sample e) r.lost ≡ true)) s v now (length l)
       (refl, refl) (released_stays OnlySamples only_samples s v now (refl, refl))
 
   unfoldable pub Plain : Story X → Type 0
-  Plain y = (all (λ e. is_sample e) y.out ≡ true) × (all (λ e. is_sample e) y.lost ≡ true)
+  Plain y = (list_all (λ e. is_sample e) y.out ≡ true) × (list_all (λ e. is_sample e) y.lost ≡ true)
 
   pub story_plain : (cs : List (Call X)) (y : Story X) → Plain y → Plain (story y cs)
   unfolding Plain follow
@@ -101,32 +101,32 @@ module _ {X : Type 0} where
       (all_both (λ e. is_sample e) z.out (takes z.state c).out h.0 k.0, all_both (λ e. is_sample e) z.lost (takes z.state c).lost h.1 k.1)) cs y p
 
   pub run_plain : (t : ℕ) (cs : List (Call X)) → Plain (story (begun t) cs)
-  run_plain t cs = story_plain cs (begun t) (unfold Plain begun all in (refl, refl))
+  run_plain t cs = story_plain cs (begun t) (unfold Plain begun in (refl, refl))
 
   -- ---- the discarded count
 
-  place_discarded : (f : Fate) (e : Entry X) (s : State X) → (place f e s).counts.discarded ≡ s.counts.discarded
+  place_discarded : (f : Fate) (e : Entry X) (s : State X) → (place f e s).counts.discarded_samples ≡ s.counts.discarded_samples
   unfolding place one_late
-  place_discarded is_stored e s = refl
-  place_discarded is_joined e s = refl
-  place_discarded is_late e s = refl
+  place_discarded Stored e s = refl
+  place_discarded Joined e s = refl
+  place_discarded Late e s = refl
 
-  pub offer_discarded : (s : State X) (o : Offer X) → (offer s o).1.counts.discarded ≡ s.counts.discarded
+  pub offer_discarded : (s : State X) (o : Offer X) → (offer s o).1.counts.discarded_samples ≡ s.counts.discarded_samples
   unfolding offer heard_offer with_marks
-  offer_discarded s o = elim (offer_refusal s o) as (λ r. (offered r s o).1.counts.discarded ≡ s.counts.discarded) [ Some n ↦ refl | None ↦ place_discarded (fate_of s o) (entry_of o) (heard_offer o s) ]
+  offer_discarded s o = elim (offer_refusal s o) as (λ r. (offered r s o).1.counts.discarded_samples ≡ s.counts.discarded_samples) [ Some n ↦ refl | None ↦ place_discarded (fate_of s o) (entry_of o) (heard_offer o s) ]
 
   -- a call raises it by the samples that it discards, until it stops
-  pub step_discarded : (s : State X) (c : Call X) (d : ℕ) → s.counts.discarded ≡ min d (2 ^ 64 - 1) → (step s c).1.counts.discarded ≡ min (d + length (takes s c).lost) (2 ^ 64 - 1)
+  pub step_discarded : (s : State X) (c : Call X) (d : ℕ) → s.counts.discarded_samples ≡ min d (2 ^ 64 - 1) → (step s c).1.counts.discarded_samples ≡ min (d + length (takes s c).lost) (2 ^ 64 - 1)
   unfolding step takes back_to Exact work_of
   step_discarded s (offers o) d e = omega (arith, offer_discarded s o)
-  step_discarded s (heartbeats h) d e = omega (arith, ap (λ x. x.discarded) (heartbeat_same s h).counts)
-  step_discarded s (gaps g) d e = omega (arith, ap (λ x. x.discarded) (gap_same s g).counts)
+  step_discarded s (heartbeats h) d e = omega (arith, ap (λ x. x.discarded_samples) (heartbeat_same s h).counts)
+  step_discarded s (gaps g) d e = omega (arith, ap (λ x. x.discarded_samples) (gap_same s g).counts)
   step_discarded s (releases now v l) d e =
-      release_cases (λ r t. t.counts.discarded ≡ min (d + length r.lost) (2 ^ 64 - 1)) s v now (length l) (omega arith)
+      release_cases (λ r t. t.counts.discarded_samples ≡ min (d + length r.lost) (2 ^ 64 - 1)) s v now (length l) (omega arith)
       (released_stays (λ l w. Exact d l w) (exact d) s v now (omega arith))
 
   unfoldable pub Tallied : Story X → Type 0
-  Tallied y = y.state.counts.discarded ≡ min (length y.lost) (2 ^ 64 - 1)
+  Tallied y = y.state.counts.discarded_samples ≡ min (length y.lost) (2 ^ 64 - 1)
 
   pub story_tallied : (cs : List (Call X)) (y : Story X) → Tallied y → Tallied (story y cs)
   unfolding Tallied follow
@@ -138,16 +138,16 @@ module _ {X : Type 0} where
 -- ---- names
 
 named_sample_w : (k : ℕ) (x : What (ℕ × ℕ)) → has_name_w k x ≡ true → is_sample_w x ≡ true
-named_sample_w k (sample x) h = refl
-named_sample_w k (set_end f o) h = h
+named_sample_w k (Sample x) h = refl
+named_sample_w k (End u) h = h
 
 pub named_sample : (k : ℕ) → OfSamples (λ e. has_name k e)
 unfolding has_name is_sample
 named_sample k e h = named_sample_w k e.what h
 
 name_w : (n j : ℕ) (x : What ℕ) → has_name_w n (map_what (λ i. (j, i)) x) ≡ is_sample_w {X = ℕ × ℕ} (map_what (λ i. (j, i)) x) && eqb n j
-name_w n j (sample i) = refl
-name_w n j (set_end f o) = refl
+name_w n j (Sample i) = refl
+name_w n j (End u) = refl
 
 -- the call at place j brings name n if it brings a sample and n is j
 brings_name : (n j : ℕ) (s : State (ℕ × ℕ)) (c : Call ℕ)
@@ -203,7 +203,7 @@ sum t cs =
     let p = run_plain t (named 0 cs) in
     omega (arith, run_even (λ e. is_sample e) (λ e h. h) t (named 0 cs), count_all (λ e. is_sample e) (final t cs).out p.0, count_all (λ e. is_sample e) (final t cs).lost p.1)
 
-pub discarded_count : (t : ℕ) (cs : List (Call ℕ)) → (final t cs).state.counts.discarded ≡ min (length (final t cs).lost) (2 ^ 64 - 1)
+pub discarded_count : (t : ℕ) (cs : List (Call ℕ)) → (final t cs).state.counts.discarded_samples ≡ min (length (final t cs).lost) (2 ^ 64 - 1)
 unfolding final Tallied
 discarded_count t cs = run_tallied t (named 0 cs)
 

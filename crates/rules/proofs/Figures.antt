@@ -7,12 +7,12 @@ use mathlib.Core.List.{List, [], ◌∷◌, ◌++◌, map}
 use Rattle.std.specs.Prelude.{Option, Some, None}
 use lib.IntN.{ℤ, pos}
 use lib.ListN.{length, replicate}
-use Rattle.laws.specs.Lists.{keep, all, any, count, find, change, is_some}
+use Rattle.laws.specs.Lists.{filter, list_all, list_any, count, find, change, is_some}
 use Rattle.guids.specs.Guid.{Guid, compare_guid, same_guid, before}
-use Rattle.rules.specs.Entry.{What, sample, set_end, Entry, is_sample, of_group, in_set, of_pair, is_member, is_end_of, marks}
-use Rattle.rules.specs.State.{State, Writer, Counts, plus, no_counts, fresh, is_group, is_writer, knows_group, knows_writer, writer_of, committed_in, committed_of, stored, new_group, new_writer}
+use Rattle.rules.specs.Entry.{What, Sample, End, set_end, Entry, is_sample, of_group, in_set, of_pair, is_member, is_end_of, marks}
+use Rattle.rules.specs.State.{State, Writer, ReleaseCounts, plus, no_counts, fresh, is_group, is_writer, knows_group, knows_writer, writer_of, committed_in, committed_of, stored, new_group, new_writer}
 use Rattle.rules.specs.Marks.{number, past, past_marks, past_of, insert_group, hear_group, hear_writer, raise, saw, gapped, or_keep, announced, announced_to, tell}
-use Rattle.rules.specs.Offer.{Fate, is_stored, is_joined, is_late, refusal, one_late, ninth, pair33, with_marks, entry_of, shares, replaced, marked, keep_end, join, fate_of, adds, offer_refusal, place, heard_offer, offer, heartbeat, gap}
+use Rattle.rules.specs.Offer.{Fate, Stored, Joined, Late, refusal, one_late, ninth, pair33, with_marks, entry_of, shares, replaced, marked, keep_end, join, fate_of, adds, offer_refusal, place, heard_offer, offer, heartbeat, gap}
 use Rattle.rules.specs.Sets.{Pair, lowest_set, lowest_ended, end_missing, members_of, members_of_pair, agrees, whole, without, is_stale, lowest_stale}
 use Rattle.rules.specs.Commit.{DigestRow, accepted, secure_accepted, digests_accepted, all_from, pair_past, ruled_out, is_head, head_of, lowest_number, next, copies_arrived, ready}
 use Rattle.rules.specs.Release.{skip, discards, young, discard, hand_out, finish, discard_stale, with_held, with_out, commit_one, commit_all, commit, waits, round, rounds, enough, View, turn_of, committed_at, malformed, at_group, release_group, release_all, work_of, back_to, released, samples, release_refusal, release}
@@ -24,7 +24,7 @@ guid k = replicate 15 0 ++ (k ∷ [])
 
 -- lines of the call list
 abbrev pub S : ℕ → ℕ → ℕ → ℤ → Option ℤ → ℕ → ℕ → ℕ → Call ℕ
-S g w r n s d i t = offers (record { group = guid g; writer = guid w; reader = r; number = n; set = s; digest = d; what = sample i; time = t })
+S g w r n s d i t = offers (record { group = guid g; writer = guid w; reader = r; number = n; set = s; digest = d; what = Sample i; time = t })
 
 abbrev pub E : ℕ → ℕ → ℕ → ℤ → Option ℤ → ℕ → Option ℤ → Option ℤ → ℕ → Call ℕ
 E g w r n s d f o t = offers (record { group = guid g; writer = guid w; reader = r; number = n; set = s; digest = d; what = set_end f o; time = t })
@@ -64,22 +64,22 @@ pub data Line : Type 0 where
   out' : List (ℕ × ℕ) → ℕ → ℕ → ℕ → ℕ → Line
 
 abbrev item_w : What ℕ → ℕ
-item_w (sample i) = i
-item_w (set_end f o) = 0
+item_w (Sample i) = i
+item_w (End u) = 0
 
 abbrev handed : List (Entry ℕ) → List (ℕ × ℕ)
 handed l = map (λ e. (e.reader, item_w e.what)) l
 
 abbrev line_f : Fate → Line
-line_f is_stored = stored'
-line_f is_joined = joined'
-line_f is_late = late'
+line_f Stored = stored'
+line_f Joined = joined'
+line_f Late = late'
 
-abbrev line : Said ℕ → Counts → Line
+abbrev line : Said ℕ → ReleaseCounts → Line
 line (is_refused n) c = refused' n
 line (is_offered f) c = line_f f
 line is_done c = ok
-line (is_released o l) c = out' (handed o) c.skipped c.incomplete c.discarded c.late
+line (is_released o l) c = out' (handed o) c.skipped_after_timeout c.incomplete_sets c.discarded_samples c.late_samples
 
 prints_from : State ℕ → List (Call ℕ) → List Line
 prints_from s [] = []
@@ -87,7 +87,7 @@ prints_from s (c ∷ cs) = line (step s c).0 (step s c).1.counts ∷ prints_from
 
 -- what a list prints from a fresh start with a timeout
 unfoldable pub prints : ℕ → List (Call ℕ) → List Line
-unfolding prints_from keep all any count find change is_some compare_guid same_guid before is_sample of_group in_set of_pair is_member is_end_of marks plus no_counts fresh is_group is_writer knows_group knows_writer writer_of committed_in committed_of stored new_group new_writer number past past_of insert_group hear_group hear_writer past_marks raise saw gapped or_keep announced announced_to tell refusal one_late ninth pair33 with_marks entry_of shares replaced marked keep_end join fate_of adds offer_refusal place heard_offer offer heartbeat gap lowest_set lowest_ended end_missing members_of members_of_pair agrees whole without is_stale lowest_stale accepted secure_accepted digests_accepted all_from pair_past ruled_out is_head head_of lowest_number next copies_arrived ready skip discards young discard hand_out finish discard_stale with_held with_out commit_one commit_all commit waits round rounds enough turn_of committed_at malformed at_group release_group release_all work_of back_to released samples release_refusal release step
+unfolding prints_from count change is_some compare_guid same_guid before is_sample of_group in_set of_pair is_member is_end_of marks plus no_counts fresh is_group is_writer knows_group knows_writer writer_of committed_in committed_of stored new_group new_writer number past past_of insert_group hear_group hear_writer past_marks raise saw gapped or_keep announced announced_to tell refusal one_late ninth pair33 with_marks entry_of shares replaced marked keep_end join fate_of adds offer_refusal place heard_offer offer heartbeat gap lowest_set lowest_ended end_missing members_of members_of_pair agrees whole without is_stale lowest_stale accepted secure_accepted digests_accepted all_from pair_past ruled_out is_head head_of lowest_number next copies_arrived ready skip discards young discard hand_out finish discard_stale with_held with_out commit_one commit_all commit waits round rounds enough turn_of committed_at malformed at_group release_group release_all work_of back_to released samples release_refusal release step
 prints t cs = prints_from (fresh t) cs
 
 -- the writer after a heartbeat 4..6 with current number 10

@@ -7,7 +7,7 @@ use Rattle.std.specs.Prelude.{Option, Some, None}
 use lib.IntN.{ℤ, pos}
 use lib.ListN.{replicate}
 use Rattle.laws.specs.Answer.{refused, answered}
-use Rattle.rules.specs.Entry.{sample, set_end, Entry}
+use Rattle.rules.specs.Entry.{Sample, End, set_end, Entry}
 use Rattle.rules.specs.State.{State, Writer, fresh, plus, no_counts, new_group, new_writer, writer_of}
 use Rattle.rules.specs.Offer.{Offer, Heartbeat, Gap, offer_refusal, heartbeat, gap}
 use Rattle.rules.specs.Run.{step, run, is_refused}
@@ -15,11 +15,11 @@ use Rattle.rules.proofs.Figures.{guid, S, E, H, G, R, nobody, both, stored', joi
 
 -- a pending sample of number 1
 abbrev pend : Entry ℕ
-pend = record { group = guid 1; writer = guid 1; reader = 0; number = 1; set = None; what = sample 0; time = 0; ended = None }
+pend = record { group = guid 1; writer = guid 1; reader = 0; number = 1; set = None; what = Sample 0; time = 0; ended = None }
 
 -- a member of set 1, and the kept end of its pair
 abbrev member : Entry ℕ
-member = record { group = guid 1; writer = guid 1; reader = 0; number = 1; set = Some (pos 1); what = sample 0; time = 0; ended = None }
+member = record { group = guid 1; writer = guid 1; reader = 0; number = 1; set = Some (pos 1); what = Sample 0; time = 0; ended = None }
 
 abbrev kept_end : Entry ℕ
 kept_end = record { group = guid 1; writer = guid 1; reader = 0; number = 1; set = Some (pos 1); what = set_end None None; time = 0; ended = None }
@@ -40,7 +40,7 @@ unfoldable pub crowd : ℕ → ℕ → State ℕ
 crowd g w = record { groups = replicate g (new_group (guid 9)); writers = replicate w (new_writer (guid 9) (guid 9)); pending = []; held = []; counts = no_counts; timeout = 1000 }
 
 abbrev brings : ℕ → ℕ → ℤ → Offer ℕ
-brings g r n = record { group = guid g; writer = guid g; reader = r; number = n; set = None; digest = 7; what = sample 0; time = 0 }
+brings g r n = record { group = guid g; writer = guid g; reader = r; number = n; set = None; digest = 7; what = Sample 0; time = 0 }
 
 abbrev ends : ℕ → Offer ℕ
 ends r = record { group = guid 1; writer = guid 1; reader = r; number = pos 1; set = Some (pos 1); digest = 7; what = set_end None None; time = 0 }

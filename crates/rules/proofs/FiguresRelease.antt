@@ -6,7 +6,7 @@ use mathlib.Core.List.{[], ◌∷◌, ◌++◌}
 use Rattle.std.specs.Prelude.{Some, None}
 use lib.IntN.{pos}
 use lib.ListN.{replicate}
-use Rattle.rules.specs.Entry.{sample, Entry}
+use Rattle.rules.specs.Entry.{Sample, Entry}
 use Rattle.rules.specs.State.{State, no_counts, fresh}
 use Rattle.rules.specs.Commit.{accepted}
 use Rattle.rules.specs.Release.{View, malformed, release_refusal}
@@ -30,7 +30,7 @@ ending = run (fresh 1000) (E 1 1 0 (pos 2) (Some (pos 1)) 7 None None 0 ∷ [])
 
 -- item 5 of a reader
 abbrev plain : ℕ → Entry ℕ
-plain r = record { group = guid 1; writer = guid 1; reader = r; number = 1; set = None; what = sample 5; time = 0; ended = None }
+plain r = record { group = guid 1; writer = guid 1; reader = r; number = 1; set = None; what = Sample 5; time = 0; ended = None }
 
 -- it alone is pending; of reader 8 no call stores it
 abbrev lone : ℕ → State ℕ

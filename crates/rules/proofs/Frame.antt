@@ -7,9 +7,9 @@ use Rattle.std.specs.Prelude.{Option, Some, None}
 use native.Mathlib.Omega.{arith}
 use lib.IntN.{ℤ}
 use borrow.Author.Tests.{not-true}
-use Rattle.laws.specs.Lists.{keep, all, count, find}
+use Rattle.laws.specs.Lists.{filter, list_all, count, find}
 use Rattle.guids.specs.Guid.{Guid, same_guid}
-use Rattle.rules.specs.Entry.{What, sample, set_end, Entry, is_sample, of_group, in_set, marks}
+use Rattle.rules.specs.Entry.{What, Sample, End, set_end, Entry, is_sample, of_group, in_set, marks}
 use Rattle.rules.specs.State.{Group, is_group}
 use Rattle.rules.specs.Offer.{shares, replaced, marked, keep_end}
 use Rattle.rules.specs.Sets.{without}
@@ -26,20 +26,20 @@ module _ {X : Type 0} where
 
   -- the group's pending and held entries are these
   abbrev Same : Guid → List (Entry X) → List (Entry X) → Work X → Type 0
-  Same g P H w = (keep (λ e. of_group g e) w.pending ≡ P) × (keep (λ e. of_group g e) w.held ≡ H)
+  Same g P H w = (filter (λ e. of_group g e) w.pending ≡ P) × (filter (λ e. of_group g e) w.held ≡ H)
 
-  without_other : (g a : Guid) (z : ℤ) (l : List (Entry X)) → same_guid g a ≡ false → keep (λ e. of_group g e) (without a z l) ≡ keep (λ e. of_group g e) l
+  without_other : (g a : Guid) (z : ℤ) (l : List (Entry X)) → same_guid g a ≡ false → filter (λ e. of_group g e) (without a z l) ≡ filter (λ e. of_group g e) l
   unfolding without in_set
   without_other g a z l f = keep_under (λ h. not (in_set a z h)) (λ e. of_group g e) (λ x h. rw (apart g a x f h)) l
 
   settle_same : (g : Guid) (P H : List (Entry X)) (e : Entry X) (w : Work X) (x : What X) (y : Option ℤ) → of_group g e ≡ false → Same g P H w → Same g P H (settle e w x y)
   unfolding with_held with_out keep_end replaced shares of_group marked
-  settle_same g P H e w (sample x) None f r = r
-  settle_same g P H e w (sample x) (Some z) f r = (r.0, keep_last (λ x. of_group g x) w.held e f ∙ r.1)
-  settle_same g P H e w (set_end o u) None f r = r
-  settle_same g P H e w (set_end o u) (Some z) f r = (
+  settle_same g P H e w (Sample x) None f r = r
+  settle_same g P H e w (Sample x) (Some z) f r = (r.0, keep_last (λ x. of_group g x) w.held e f ∙ r.1)
+  settle_same g P H e w (End u) None f r = r
+  settle_same g P H e w (End u) (Some z) f r = (
     r.0,
-    keep_last (λ x. of_group g x) (keep (λ x. not (replaced e x)) w.held) (marked (mark_or e.time (find (λ m. shares e m && marks m) w.held)) e) f
+    keep_last (λ x. of_group g x) (filter (λ x. not (replaced e x)) w.held) (marked (mark_or e.time (find (λ m. shares e m && marks m) w.held)) e) f
         ∙ keep_under (λ x. not (replaced e x)) (λ x. of_group g x) (λ x s. rw (apart g e.group x f s)) w.held
         ∙ r.1,
   )
@@ -54,12 +54,12 @@ module _ {X : Type 0} where
   }
 
   -- groups none of which is g leave its pending and its held entries
-  pub frame : (g : Guid) (t : Group → Turn) → ((x : Group) → (t x).guid ≡ x.guid) → (gs : List Group) (w : Work X) → all (λ x. not (is_group g x)) gs ≡ true
-      → (keep (λ e. of_group g e) (release_all t gs w).1.pending ≡ keep (λ e. of_group g e) w.pending)
-      × (keep (λ e. of_group g e) (release_all t gs w).1.held ≡ keep (λ e. of_group g e) w.held)
+  pub frame : (g : Guid) (t : Group → Turn) → ((x : Group) → (t x).guid ≡ x.guid) → (gs : List Group) (w : Work X) → list_all (λ x. not (is_group g x)) gs ≡ true
+      → (filter (λ e. of_group g e) (release_all t gs w).1.pending ≡ filter (λ e. of_group g e) w.pending)
+      × (filter (λ e. of_group g e) (release_all t gs w).1.held ≡ filter (λ e. of_group g e) w.held)
   unfolding is_group at_group
   frame g t same gs w a =
-      release_all_keeps {P = λ l v. Same g (keep (λ e. of_group g e) w.pending) (keep (λ e. of_group g e) w.held) v} t (λ x. not (is_group g x))
+      release_all_keeps {P = λ l v. Same g (filter (λ e. of_group g e) w.pending) (filter (λ e. of_group g e) w.held) v} t (λ x. not (is_group g x))
       (λ x o. keeps_same g _ _ (t x) (ap (λ y. same_guid g y) (same x) ∙ not-true _ o)) (λ x v r. r) gs a w (refl, refl)
 
   -- ---- a release stores no entry more
@@ -76,12 +76,12 @@ module _ {X : Type 0} where
 
     settle_fewer : (n : ℕ) (e : Entry X) (l : List (Entry X)) (w : Work X) (x : What X) (y : Option ℤ) → AtMost n (e ∷ l) w → AtMost n l (settle e w x y)
     unfolding with_held with_out keep_end
-    settle_fewer n e l w (sample x) None r = omega (arith, count_cons q e l)
-    settle_fewer n e l w (sample x) (Some z) r = omega (arith, count_cons q e l, count_last h w.held e, weight_imp (h e) (q e) (plain e))
-    settle_fewer n e l w (set_end f o) None r = omega (arith, count_cons q e l)
-    settle_fewer n e l w (set_end f o) (Some z) r =
+    settle_fewer n e l w (Sample x) None r = omega (arith, count_cons q e l)
+    settle_fewer n e l w (Sample x) (Some z) r = omega (arith, count_cons q e l, count_last h w.held e, weight_imp (h e) (q e) (plain e))
+    settle_fewer n e l w (End u) None r = omega (arith, count_cons q e l)
+    settle_fewer n e l w (End u) (Some z) r =
         let m : Option ℕ = mark_or e.time (find (λ m. shares e m && marks m) w.held) in
-        omega (arith, count_cons q e l, count_last h (keep (λ x. not (replaced e x)) w.held) (marked m e), weight_imp (h (marked m e)) (q e) (kept m e), count_keep (λ x. not (replaced e x)) h w.held)
+        omega (arith, count_cons q e l, count_last h (filter (λ x. not (replaced e x)) w.held) (marked m e), weight_imp (h (marked m e)) (q e) (kept m e), count_keep (λ x. not (replaced e x)) h w.held)
 
     fewer : (n : ℕ) (t : Turn) → Keeps t (λ l w. AtMost n l w)
     unfolding discard hand_out head_of without

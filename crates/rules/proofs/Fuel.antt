@@ -7,9 +7,9 @@ use Rattle.std.specs.Prelude.{Option, Some, None}
 use native.Mathlib.Omega.{arith}
 use lib.IntN.{ℤ}
 use lib.ListN.{length, length-append}
-use Rattle.laws.specs.Lists.{keep, any, count, find}
+use Rattle.laws.specs.Lists.{filter, list_any, count, find}
 use Rattle.guids.specs.Guid.{Guid}
-use Rattle.rules.specs.Entry.{What, sample, set_end, Entry, in_set, marks}
+use Rattle.rules.specs.Entry.{What, Sample, End, set_end, Entry, in_set, marks}
 use Rattle.rules.specs.Offer.{shares, replaced, marked, keep_end}
 use Rattle.rules.specs.Sets.{lowest_set, lowest_ended, whole, without, is_stale, lowest_stale}
 use Rattle.rules.specs.Commit.{Turn, is_head, head_of, next}
@@ -22,7 +22,7 @@ module _ {X : Type 0} where
   -- ---- discards
 
   -- what leaves shortens the list
-  pub without_shorter : (g : Guid) (z : ℤ) (l : List (Entry X)) → any (λ h. in_set g z h) l ≡ true → length (without g z l) < length l
+  pub without_shorter : (g : Guid) (z : ℤ) (l : List (Entry X)) → list_any (λ h. in_set g z h) l ≡ true → length (without g z l) < length l
   unfolding without count
   without_shorter g z l h = omega (arith, count_any (λ h. in_set g z h) l h, length_split (λ h. in_set g z h) l)
 
@@ -31,7 +31,7 @@ module _ {X : Type 0} where
   stale_shorter e w z h = without_shorter e.group z w.held (any_imp (λ x. in_set e.group z x && is_stale e w.held x) (λ x. in_set e.group z x) (λ x p. and_left (in_set e.group z x) _ p) w.held (stale_there e w.held z h))
 
   none_stale : (e : Entry X) (l : List (Entry X)) → length l ≤ 0 → lowest_stale e l ≡ None
-  unfolding lowest_stale lowest_set keep
+  unfolding lowest_stale lowest_set
   none_stale e [] h = refl
   none_stale e (x ∷ l) h = absurd (omega arith)
 
@@ -56,21 +56,21 @@ module _ {X : Type 0} where
 
   pub keep_end_length : (m : Option ℕ) (e : Entry X) (l : List (Entry X)) → length (keep_end m e l) ≤ suc (length l)
   unfolding keep_end
-  keep_end_length m e l = omega (arith, length-append (keep (λ h. not (replaced e h)) l) (marked m e ∷ []), length_keep (λ h. not (replaced e h)) l)
+  keep_end_length m e l = omega (arith, length-append (filter (λ h. not (replaced e h)) l) (marked m e ∷ []), length_keep (λ h. not (replaced e h)) l)
 
   pub settle_length : (e : Entry X) (w : Work X) (x : What X) (s : Option ℤ) → length (settle e w x s).held ≤ suc (length w.held)
   unfolding with_held with_out
-  settle_length e w (sample x) None = omega arith
-  settle_length e w (sample x) (Some z) = omega (arith, length-append w.held (e ∷ []))
-  settle_length e w (set_end f o) None = omega arith
-  settle_length e w (set_end f o) (Some z) = keep_end_length (mark_or e.time (find (λ m. shares e m && marks m) w.held)) e w.held
+  settle_length e w (Sample x) None = omega arith
+  settle_length e w (Sample x) (Some z) = omega (arith, length-append w.held (e ∷ []))
+  settle_length e w (End u) None = omega arith
+  settle_length e w (End u) (Some z) = keep_end_length (mark_or e.time (find (λ m. shares e m && marks m) w.held)) e w.held
 
   pub settle_pending : (e : Entry X) (w : Work X) (x : What X) (s : Option ℤ) → (settle e w x s).pending ≡ w.pending
   unfolding with_held with_out
-  settle_pending e w (sample x) None = refl
-  settle_pending e w (sample x) (Some z) = refl
-  settle_pending e w (set_end f o) None = refl
-  settle_pending e w (set_end f o) (Some z) = refl
+  settle_pending e w (Sample x) None = refl
+  settle_pending e w (Sample x) (Some z) = refl
+  settle_pending e w (End u) None = refl
+  settle_pending e w (End u) (Some z) = refl
 
   pub stale_pending : (e : Entry X) (k : ℕ) (w : Work X) → (discard_stale k e w).pending ≡ w.pending
   unfolding discard

@@ -8,7 +8,7 @@ use native.Mathlib.Omega.{arith}
 use lib.Dec.{leb}
 use lib.ListN.{length, length-append}
 use borrow.Author.Tests.{leb-false, not-true}
-use Rattle.laws.specs.Lists.{all, any, find, change}
+use Rattle.laws.specs.Lists.{list_all, list_any, find, change}
 use Rattle.guids.specs.Guid.{Guid, same_guid, before}
 use Rattle.rules.specs.State.{Group, Writer, is_group, is_writer, knows_group, knows_writer, committed_in, committed_of, new_group, new_writer}
 use Rattle.rules.specs.Marks.{insert_group, hear_group, hear_writer, tell}
@@ -38,7 +38,7 @@ unfolding knows_group is_group
 knows_by h l k e = any_by_map (λ g. same_guid h g) (λ x. x.guid) l k e
 
 pub committed_cons : (h : Guid) (y : Group) (l : List Group) → committed_of h (y ∷ l) ≡ cond (same_guid h y.guid) y.committed (committed_of h l)
-unfolding committed_of find committed_in is_group
+unfolding committed_of committed_in is_group
 committed_cons h y l = (elim (same_guid h y.guid) as (λ b. committed_in (cond b (Some y) (find (λ x. is_group h x) l)) ≡ cond b y.committed (committed_of h l)) [ true ↦ refl | false ↦ refl ])
 
 -- a change of neither GUIDs nor committed numbers
@@ -50,15 +50,15 @@ committed_change h q f d e (y ∷ l) = (elim (q y) as (λ b. committed_of h (con
 
 -- ---- a group put in its place
 
-pub insert_all : (p : Group → Bool) (x : Group) (l : List Group) → p x ≡ true → all p l ≡ true → all p (insert_group x l) ≡ true
-unfolding insert_group all
+pub insert_all : (p : Group → Bool) (x : Group) (l : List Group) → p x ≡ true → list_all p l ≡ true → list_all p (insert_group x l) ≡ true
+unfolding insert_group
 insert_all p x [] d e = and_true (p x) true d refl
-insert_all p x (y ∷ l) d e = (elim (before x.guid y.guid) as (λ b. all p (cond b (x ∷ y ∷ l) (y ∷ insert_group x l)) ≡ true) [ true ↦ and_true (p x) _ d e | false ↦ and_true (p y) _ (and_left (p y) _ e) (insert_all p x l d (and_right (p y) _ e)) ])
+insert_all p x (y ∷ l) d e = (elim (before x.guid y.guid) as (λ b. list_all p (cond b (x ∷ y ∷ l) (y ∷ insert_group x l)) ≡ true) [ true ↦ and_true (p x) _ d e | false ↦ and_true (p y) _ (and_left (p y) _ e) (insert_all p x l d (and_right (p y) _ e)) ])
 
-pub insert_any : (p : Group → Bool) (x : Group) (l : List Group) → any p (insert_group x l) ≡ p x || any p l
-unfolding insert_group any
+pub insert_any : (p : Group → Bool) (x : Group) (l : List Group) → list_any p (insert_group x l) ≡ p x || list_any p l
+unfolding insert_group
 insert_any p x [] = refl
-insert_any p x (y ∷ l) = (elim (before x.guid y.guid) as (λ b. any p (cond b (x ∷ y ∷ l) (y ∷ insert_group x l)) ≡ p x || (p y || any p l)) [ true ↦ refl | false ↦ ap (λ b. p y || b) (insert_any p x l) ∙ or_swap (p y) (p x) (any p l) ])
+insert_any p x (y ∷ l) = (elim (before x.guid y.guid) as (λ b. list_any p (cond b (x ∷ y ∷ l) (y ∷ insert_group x l)) ≡ p x || (p y || list_any p l)) [ true ↦ refl | false ↦ ap (λ b. p y || b) (insert_any p x l) ∙ or_swap (p y) (p x) (list_any p l) ])
 
 insert_length : (x : Group) (l : List Group) → length (insert_group x l) ≡ suc (length l)
 unfolding insert_group
@@ -74,21 +74,21 @@ or_false_right true b e = not_both true refl e
 or_false_right false b e = e
 
 insert_ascending : (x : Group) (l : List Group) → knows_group x.guid l ≡ false → ascending l ≡ true → ascending (insert_group x l) ≡ true
-unfolding insert_group ascending knows_group is_group any all
+unfolding insert_group ascending knows_group is_group
 insert_ascending x [] d e = refl
 insert_ascending x (y ∷ l) d e =
     (elim (before x.guid y.guid) as (λ b. before x.guid y.guid ≡ b → ascending (cond b (x ∷ y ∷ l) (y ∷ insert_group x l)) ≡ true) [
-      | true ↦ λ f. and_true (all (λ h. before x.guid h.guid) (y ∷ l)) _
-          (and_true (before x.guid y.guid) _ f (all_imp (λ h. before y.guid h.guid) (λ h. before x.guid h.guid) (λ h k. before_trans x.guid y.guid h.guid f k) l (and_left (all (λ h. before y.guid h.guid) l) _ e))) e
-      | false ↦ λ f. and_true (all (λ h. before y.guid h.guid) (insert_group x l)) _
-          (insert_all (λ h. before y.guid h.guid) x l (trichotomy x.guid y.guid (or_false_left (same_guid x.guid y.guid) _ d) f) (and_left (all (λ h. before y.guid h.guid) l) _ e))
-          (insert_ascending x l (or_false_right (same_guid x.guid y.guid) _ d) (and_right (all (λ h. before y.guid h.guid) l) _ e))
+      | true ↦ λ f. and_true (list_all (λ h. before x.guid h.guid) (y ∷ l)) _
+          (and_true (before x.guid y.guid) _ f (all_imp (λ h. before y.guid h.guid) (λ h. before x.guid h.guid) (λ h k. before_trans x.guid y.guid h.guid f k) l (and_left (list_all (λ h. before y.guid h.guid) l) _ e))) e
+      | false ↦ λ f. and_true (list_all (λ h. before y.guid h.guid) (insert_group x l)) _
+          (insert_all (λ h. before y.guid h.guid) x l (trichotomy x.guid y.guid (or_false_left (same_guid x.guid y.guid) _ d) f) (and_left (list_all (λ h. before y.guid h.guid) l) _ e))
+          (insert_ascending x l (or_false_right (same_guid x.guid y.guid) _ d) (and_right (list_all (λ h. before y.guid h.guid) l) _ e))
     ]) refl
 
 pub unknown_committed : (h : Guid) (l : List Group) → knows_group h l ≡ false → committed_of h l ≡ 0
-unfolding knows_group committed_of any find committed_in
+unfolding knows_group committed_of committed_in
 unknown_committed h [] e = refl
-unknown_committed h (y ∷ l) e = (elim (is_group h y) as (λ b. b || any (λ x. is_group h x) l ≡ false → committed_in (cond b (Some y) (find (λ x. is_group h x) l)) ≡ 0) [ true ↦ λ k. not_both true refl k | false ↦ λ k. unknown_committed h l k ]) e
+unknown_committed h (y ∷ l) e = (elim (is_group h y) as (λ b. b || list_any (λ x. is_group h x) l ≡ false → committed_in (cond b (Some y) (find (λ x. is_group h x) l)) ≡ 0) [ true ↦ λ k. not_both true refl k | false ↦ λ k. unknown_committed h l k ]) e
 
 -- a group put before those that do not know it, with nothing committed
 committed_first : (h : Guid) (x : Group) (l : List Group) → x.committed ≡ 0 → knows_group x.guid l ≡ false → committed_of h (x ∷ l) ≡ committed_of h l
@@ -105,7 +105,7 @@ insert_committed h x [] c d = committed_first h x [] c d
 insert_committed h x (y ∷ l) c d =
     (elim (before x.guid y.guid) as (λ b. committed_of h (cond b (x ∷ y ∷ l) (y ∷ insert_group x l)) ≡ committed_of h (y ∷ l)) [
       | true ↦ committed_first h x (y ∷ l) c d
-      | false ↦ rw (committed_cons h y (insert_group x l), committed_cons h y l, insert_committed h x l c (unfold knows_group any in or_false_right (is_group x.guid y) _ d))
+      | false ↦ rw (committed_cons h y (insert_group x l), committed_cons h y l, insert_committed h x l c (unfold knows_group in or_false_right (is_group x.guid y) _ d))
     ])
 
 -- ---- hearing of a group
@@ -121,11 +121,11 @@ hear_committed h g l = (elim (knows_group g l) as (λ b. knows_group g l ≡ b �
 -- what was known stays known, and the group is
 pub hear_keeps : (h g : Guid) (l : List Group) → knows_group h l ≡ true → knows_group h (hear_group g l) ≡ true
 unfolding hear_group knows_group
-hear_keeps h g l e = (elim (knows_group g l) as (λ b. any (λ x. is_group h x) (cond b l (insert_group (new_group g) l)) ≡ true) [ true ↦ e | false ↦ insert_any (λ x. is_group h x) (new_group g) l ∙ or_true_right (is_group h (new_group g)) _ e ])
+hear_keeps h g l e = (elim (knows_group g l) as (λ b. list_any (λ x. is_group h x) (cond b l (insert_group (new_group g) l)) ≡ true) [ true ↦ e | false ↦ insert_any (λ x. is_group h x) (new_group g) l ∙ or_true_right (is_group h (new_group g)) _ e ])
 
 pub hear_knows : (g : Guid) (l : List Group) → knows_group g (hear_group g l) ≡ true
 unfolding hear_group knows_group is_group new_group
-hear_knows g l = (elim (knows_group g l) as (λ b. knows_group g l ≡ b → any (λ x. is_group g x) (cond b l (insert_group (new_group g) l)) ≡ true) [ true ↦ λ d. d | false ↦ λ d. insert_any (λ x. is_group g x) (new_group g) l ∙ or_true_left (is_group g (new_group g)) _ (same_refl g) ]) refl
+hear_knows g l = (elim (knows_group g l) as (λ b. knows_group g l ≡ b → list_any (λ x. is_group g x) (cond b l (insert_group (new_group g) l)) ≡ true) [ true ↦ λ d. d | false ↦ λ d. insert_any (λ x. is_group g x) (new_group g) l ∙ or_true_left (is_group g (new_group g)) _ (same_refl g) ]) refl
 
 pub hear_length : (g : Guid) (n : ℕ) (l : List Group) → not (knows_group g l) && leb n (length l) ≡ false → length l ≤ n → length (hear_group g l) ≤ n
 unfolding hear_group
@@ -157,19 +157,19 @@ distinct_by (x ∷ l) (y ∷ k) e =
     rw (d, c, distinct_by l k f, any_by_map (λ u. same_guid y.group u.0 && same_guid y.writer u.1) name l k f)
 
 distinct_more : (l : List Writer) (x : Writer) → knows_writer x.group x.writer l ≡ false → distinct l ≡ true → distinct (l ++ (x ∷ [])) ≡ true
-unfolding distinct knows_writer any
+unfolding distinct knows_writer
 distinct_more [] x d e = refl
 distinct_more (y ∷ l) x d e =
-    and_true (not (any (λ z. is_writer y.group y.writer z) (l ++ (x ∷ [])))) _
-    (rw (any_append (λ z. is_writer y.group y.writer z) l (x ∷ []), not-true (any (λ z. is_writer y.group y.writer z) l) (and_left (not (any (λ z. is_writer y.group y.writer z) l)) _ e), is_writer_sym y x, or_false_left (is_writer x.group x.writer y) _ d))
-    (distinct_more l x (or_false_right (is_writer x.group x.writer y) _ d) (and_right (not (any (λ z. is_writer y.group y.writer z) l)) _ e))
+    and_true (not (list_any (λ z. is_writer y.group y.writer z) (l ++ (x ∷ [])))) _
+    (rw (any_append (λ z. is_writer y.group y.writer z) l (x ∷ []), not-true (list_any (λ z. is_writer y.group y.writer z) l) (and_left (not (list_any (λ z. is_writer y.group y.writer z) l)) _ e), is_writer_sym y x, or_false_left (is_writer x.group x.writer y) _ d))
+    (distinct_more l x (or_false_right (is_writer x.group x.writer y) _ d) (and_right (not (list_any (λ z. is_writer y.group y.writer z) l)) _ e))
 
 hear_distinct : (g w : Guid) (l : List Writer) → distinct l ≡ true → distinct (hear_writer g w l) ≡ true
 unfolding hear_writer new_writer
 hear_distinct g w l e = (elim (knows_writer g w l) as (λ b. knows_writer g w l ≡ b → distinct (cond b l (l ++ (new_writer g w ∷ []))) ≡ true) [ true ↦ λ d. e | false ↦ λ d. distinct_more l (new_writer g w) d e ]) refl
 
-own_writer : (g w : Guid) → any (λ x. is_writer g w x) (new_writer g w ∷ []) ≡ true
-unfolding any is_writer new_writer
+own_writer : (g w : Guid) → list_any (λ x. is_writer g w x) (new_writer g w ∷ []) ≡ true
+unfolding is_writer new_writer
 own_writer g w = or_true_left (same_guid g g && same_guid w w) false (and_true (same_guid g g) (same_guid w w) (same_refl g) (same_refl w))
 
 -- ---- telling of a writer, by a change that leaves its names
@@ -184,16 +184,16 @@ module _ (g w : Guid) (f : Writer → Writer) (same : (x : Writer) → name (f x
 
   pub tell_keeps : (h v : Guid) (l : List Writer) → knows_writer h v l ≡ true → knows_writer h v (tell g w f l) ≡ true
   unfolding hear_writer
-  tell_keeps h v l e = knows_writer_by h v (tell g w f l) (hear_writer g w l) (tell_names l) ∙ (elim (knows_writer g w l) as (λ b. knows_writer h v (cond b l (l ++ (new_writer g w ∷ []))) ≡ true) [ true ↦ e | false ↦ unfold knows_writer in any_append (λ x. is_writer h v x) l (new_writer g w ∷ []) ∙ or_true_left (any (λ x. is_writer h v x) l) _ e ])
+  tell_keeps h v l e = knows_writer_by h v (tell g w f l) (hear_writer g w l) (tell_names l) ∙ (elim (knows_writer g w l) as (λ b. knows_writer h v (cond b l (l ++ (new_writer g w ∷ []))) ≡ true) [ true ↦ e | false ↦ unfold knows_writer in any_append (λ x. is_writer h v x) l (new_writer g w ∷ []) ∙ or_true_left (list_any (λ x. is_writer h v x) l) _ e ])
 
   pub tell_knows : (l : List Writer) → knows_writer g w (tell g w f l) ≡ true
   unfolding hear_writer
-  tell_knows l = knows_writer_by g w (tell g w f l) (hear_writer g w l) (tell_names l) ∙ (elim (knows_writer g w l) as (λ b. knows_writer g w l ≡ b → knows_writer g w (cond b l (l ++ (new_writer g w ∷ []))) ≡ true) [ true ↦ λ d. d | false ↦ λ d. unfold knows_writer in any_append (λ x. is_writer g w x) l (new_writer g w ∷ []) ∙ or_true_right (any (λ x. is_writer g w x) l) _ (own_writer g w) ]) refl
+  tell_knows l = knows_writer_by g w (tell g w f l) (hear_writer g w l) (tell_names l) ∙ (elim (knows_writer g w l) as (λ b. knows_writer g w l ≡ b → knows_writer g w (cond b l (l ++ (new_writer g w ∷ []))) ≡ true) [ true ↦ λ d. d | false ↦ λ d. unfold knows_writer in any_append (λ x. is_writer g w x) l (new_writer g w ∷ []) ∙ or_true_right (list_any (λ x. is_writer g w x) l) _ (own_writer g w) ]) refl
 
   -- what each writer's group is, each one's is after
-  pub tell_all : (p : Guid → Bool) (l : List Writer) → p g ≡ true → all (λ x. p x.group) l ≡ true → all (λ x. p x.group) (tell g w f l) ≡ true
+  pub tell_all : (p : Guid → Bool) (l : List Writer) → p g ≡ true → list_all (λ x. p x.group) l ≡ true → list_all (λ x. p x.group) (tell g w f l) ≡ true
   unfolding hear_writer new_writer
-  tell_all p l d e = all_by_map (λ u. p u.0) name (tell g w f l) (hear_writer g w l) (tell_names l) ∙ (elim (knows_writer g w l) as (λ b. all (λ x. p x.group) (cond b l (l ++ (new_writer g w ∷ []))) ≡ true) [ true ↦ e | false ↦ all_snoc (λ x. p x.group) l (new_writer g w) e d ])
+  tell_all p l d e = all_by_map (λ u. p u.0) name (tell g w f l) (hear_writer g w l) (tell_names l) ∙ (elim (knows_writer g w l) as (λ b. list_all (λ x. p x.group) (cond b l (l ++ (new_writer g w ∷ []))) ≡ true) [ true ↦ e | false ↦ all_snoc (λ x. p x.group) l (new_writer g w) e d ])
 
   pub tell_length : (n : ℕ) (l : List Writer) → not (knows_writer g w l) && leb n (length l) ≡ false → length l ≤ n → length (tell g w f l) ≤ n
   unfolding hear_writer

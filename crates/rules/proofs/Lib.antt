@@ -1,5 +1,4 @@
 pub mod Whole
-pub mod Distance
 pub mod Open
 pub mod Minima
 pub mod Turns

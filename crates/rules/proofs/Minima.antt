@@ -10,7 +10,7 @@ use lib.Signed.{lt_z}
 use lib.Dec.{leb, eqb}
 use borrow.Author.Tests.{ltb-true, ltb-false, leb-true, leb-false, le-leb, le-ltb, eqb-true, eq-eqb, not-true}
 use Rattle.laws.specs.Whole.{eq_z}
-use Rattle.laws.specs.Lists.{keep, all, any, is_some}
+use Rattle.laws.specs.Lists.{filter, list_all, list_any, is_some}
 use Rattle.guids.specs.Guid.{Guid}
 use Rattle.rules.specs.Entry.{Entry, is_set, of_group, in_set, marks}
 use Rattle.rules.specs.Offer.{shares}
@@ -72,11 +72,11 @@ module _ {X : Type 0} where
   lowest_number_none (e ∷ l) h = (elim (lowest_number l) as (λ o. least e.number o ≡ None → e ∷ l ≡ []) [ None ↦ λ k. none_not_some (Some e.number) e.number k refl | Some m ↦ λ k. none_not_some (Some (min e.number m)) (min e.number m) k refl ]) h
 
   -- no entry's number is below the lowest
-  pub lowest_number_lower : (l : List (Entry X)) (n : ℕ) → lowest_number l ≡ Some n → all (λ e. leb n e.number) l ≡ true
-  unfolding lowest_number all
+  pub lowest_number_lower : (l : List (Entry X)) (n : ℕ) → lowest_number l ≡ Some n → list_all (λ e. leb n e.number) l ≡ true
+  unfolding lowest_number
   lowest_number_lower [] n h = refl
   lowest_number_lower (e ∷ l) n h =
-      (elim (lowest_number l) as (λ o. lowest_number l ≡ o → least e.number o ≡ Some n → leb n e.number && all (λ e. leb n e.number) l ≡ true) [
+      (elim (lowest_number l) as (λ o. lowest_number l ≡ o → least e.number o ≡ Some n → leb n e.number && list_all (λ e. leb n e.number) l ≡ true) [
         | None ↦ λ d k.
             let z : e.number ≡ n = cc in
             rw (lowest_number_none l d) (and_true (leb n e.number) true (le-leb n e.number (omega arith)) refl)
@@ -87,15 +87,15 @@ module _ {X : Type 0} where
       ]) refl h
 
   -- some entry has it
-  pub lowest_number_attained : (l : List (Entry X)) (n : ℕ) → lowest_number l ≡ Some n → any (λ e. eqb n e.number) l ≡ true
-  unfolding lowest_number any
+  pub lowest_number_attained : (l : List (Entry X)) (n : ℕ) → lowest_number l ≡ Some n → list_any (λ e. eqb n e.number) l ≡ true
+  unfolding lowest_number
   lowest_number_attained [] n h = none_not_some None n refl h
   lowest_number_attained (e ∷ l) n h =
-      (elim (lowest_number l) as (λ o. lowest_number l ≡ o → least e.number o ≡ Some n → eqb n e.number || any (λ e. eqb n e.number) l ≡ true) [
+      (elim (lowest_number l) as (λ o. lowest_number l ≡ o → least e.number o ≡ Some n → eqb n e.number || list_any (λ e. eqb n e.number) l ≡ true) [
         | None ↦ λ d k. let z : e.number ≡ n = cc in or_true_left (eqb n e.number) _ (eq-eqb n e.number (sym z))
         | Some m ↦ λ d k.
             let z : min e.number m ≡ n = cc in
-            (elim (leb e.number m) as (λ b. leb e.number m ≡ b → eqb n e.number || any (λ e. eqb n e.number) l ≡ true) [
+            (elim (leb e.number m) as (λ b. leb e.number m ≡ b → eqb n e.number || list_any (λ e. eqb n e.number) l ≡ true) [
               | true ↦ λ f. or_true_left (eqb n e.number) _ (eq-eqb n e.number (omega (arith, leb-true e.number m f)))
               | false ↦ λ f. or_true_right (eqb n e.number) _ (lowest_number_attained l n (d ∙ ap Some (omega (arith, leb-false e.number m f))))
             ]) refl
@@ -104,29 +104,29 @@ module _ {X : Type 0} where
   -- ---- set numbers
 
   -- without a lowest set number no entry has one
-  pub lowest_set_none : (l : List (Entry X)) → lowest_set l ≡ None → all (λ e. not (is_some e.set)) l ≡ true
-  unfolding lowest_set all is_some
+  pub lowest_set_none : (l : List (Entry X)) → lowest_set l ≡ None → list_all (λ e. not (is_some e.set)) l ≡ true
+  unfolding lowest_set is_some
   lowest_set_none [] h = refl
   lowest_set_none (e ∷ l) h =
-      (elim e.set as (λ s. lesser s (lowest_set l) ≡ None → not (is_some s) && all (λ e. not (is_some e.set)) l ≡ true) [
+      (elim e.set as (λ s. lesser s (lowest_set l) ≡ None → not (is_some s) && list_all (λ e. not (is_some e.set)) l ≡ true) [
         | None ↦ λ k. lowest_set_none l k
         | Some a ↦ λ k. (elim (lowest_set l) as (λ o. lesser (Some a) o ≡ None → false ≡ true) [ None ↦ λ u. none_not_some (Some a) a u refl | Some b ↦ λ u. none_not_some (Some (cond (lt_z b a) b a)) (cond (lt_z b a) b a) u refl ]) k
       ]) h
 
   -- no entry's set number is below the lowest
-  pub lowest_set_lower : (l : List (Entry X)) (z : ℤ) → lowest_set l ≡ Some z → all (λ e. not_under z e.set) l ≡ true
-  unfolding lowest_set all
+  pub lowest_set_lower : (l : List (Entry X)) (z : ℤ) → lowest_set l ≡ Some z → list_all (λ e. not_under z e.set) l ≡ true
+  unfolding lowest_set
   lowest_set_lower [] z h = refl
   lowest_set_lower (e ∷ l) z h =
-      (elim e.set as (λ s. lesser s (lowest_set l) ≡ Some z → not_under z s && all (λ e. not_under z e.set) l ≡ true) [
+      (elim e.set as (λ s. lesser s (lowest_set l) ≡ Some z → not_under z s && list_all (λ e. not_under z e.set) l ≡ true) [
         | None ↦ λ k. lowest_set_lower l z k
         | Some a ↦ λ k.
-            (elim (lowest_set l) as (λ o. lowest_set l ≡ o → lesser (Some a) o ≡ Some z → not (lt_z a z) && all (λ e. not_under z e.set) l ≡ true) [
+            (elim (lowest_set l) as (λ o. lowest_set l ≡ o → lesser (Some a) o ≡ Some z → not (lt_z a z) && list_all (λ e. not_under z e.set) l ≡ true) [
               | None ↦ λ d u.
                   let y : a ≡ z = cc in
                   and_true (not (lt_z a z)) _ (rw (← y) (ap not (lt_z_irrefl a))) (all_imp (λ e. not (is_some e.set)) (λ e. not_under z e.set) (λ e f. setless z e.set f) l (lowest_set_none l d))
               | Some b ↦ λ d u.
-                  (elim (lt_z b a) as (λ t. lt_z b a ≡ t → Some (cond t b a) ≡ Some z → not (lt_z a z) && all (λ e. not_under z e.set) l ≡ true) [
+                  (elim (lt_z b a) as (λ t. lt_z b a ≡ t → Some (cond t b a) ≡ Some z → not (lt_z a z) && list_all (λ e. not_under z e.set) l ≡ true) [
                     | true ↦ λ f v.
                         let y : b ≡ z = cc in
                         and_true (not (lt_z a z)) _ (rw (← y) (ap not (below_not_above a b f))) (lowest_set_lower l z (d ∙ v))
@@ -138,17 +138,17 @@ module _ {X : Type 0} where
       ]) h
 
   -- some entry has it
-  pub lowest_set_attained : (l : List (Entry X)) (z : ℤ) → lowest_set l ≡ Some z → any (λ e. is_set z e.set) l ≡ true
-  unfolding lowest_set any
+  pub lowest_set_attained : (l : List (Entry X)) (z : ℤ) → lowest_set l ≡ Some z → list_any (λ e. is_set z e.set) l ≡ true
+  unfolding lowest_set
   lowest_set_attained [] z h = none_not_some None z refl h
   lowest_set_attained (e ∷ l) z h =
-      (elim e.set as (λ s. lesser s (lowest_set l) ≡ Some z → is_set z s || any (λ e. is_set z e.set) l ≡ true) [
+      (elim e.set as (λ s. lesser s (lowest_set l) ≡ Some z → is_set z s || list_any (λ e. is_set z e.set) l ≡ true) [
         | None ↦ λ k. lowest_set_attained l z k
         | Some a ↦ λ k.
-            (elim (lowest_set l) as (λ o. lowest_set l ≡ o → lesser (Some a) o ≡ Some z → eq_z z a || any (λ e. is_set z e.set) l ≡ true) [
+            (elim (lowest_set l) as (λ o. lowest_set l ≡ o → lesser (Some a) o ≡ Some z → eq_z z a || list_any (λ e. is_set z e.set) l ≡ true) [
               | None ↦ λ d u. let y : a ≡ z = cc in or_true_left (eq_z z a) _ (rw y (eq_z_refl z))
               | Some b ↦ λ d u.
-                  (elim (lt_z b a) as (λ t. Some (cond t b a) ≡ Some z → eq_z z a || any (λ e. is_set z e.set) l ≡ true) [
+                  (elim (lt_z b a) as (λ t. Some (cond t b a) ≡ Some z → eq_z z a || list_any (λ e. is_set z e.set) l ≡ true) [
                     | true ↦ λ v. or_true_right (eq_z z a) _ (lowest_set_attained l z (d ∙ v))
                     | false ↦ λ v. let y : a ≡ z = cc in or_true_left (eq_z z a) _ (rw y (eq_z_refl z))
                   ]) u
@@ -157,22 +157,22 @@ module _ {X : Type 0} where
 
   -- ---- a group's next number, its lowest ended set and the lowest stale one
 
-  pub next_none : (t : Turn) (l : List (Entry X)) → next t l ≡ None → any (λ e. of_group t.guid e) l ≡ false
+  pub next_none : (t : Turn) (l : List (Entry X)) → next t l ≡ None → list_any (λ e. of_group t.guid e) l ≡ false
   unfolding next
-  next_none t l h = kept_none (λ e. of_group t.guid e) l (lowest_number_none (keep (λ e. of_group t.guid e) l) h)
+  next_none t l h = kept_none (λ e. of_group t.guid e) l (lowest_number_none (filter (λ e. of_group t.guid e) l) h)
 
-  pub next_lower : (t : Turn) (l : List (Entry X)) (n : ℕ) → next t l ≡ Some n → all (λ e. not (of_group t.guid e) || leb n e.number) l ≡ true
+  pub next_lower : (t : Turn) (l : List (Entry X)) (n : ℕ) → next t l ≡ Some n → list_all (λ e. not (of_group t.guid e) || leb n e.number) l ≡ true
   unfolding next
-  next_lower t l n h = all_unkept (λ e. leb n e.number) (λ e. of_group t.guid e) l (lowest_number_lower (keep (λ e. of_group t.guid e) l) n h)
+  next_lower t l n h = all_unkept (λ e. leb n e.number) (λ e. of_group t.guid e) l (lowest_number_lower (filter (λ e. of_group t.guid e) l) n h)
 
-  pub next_head : (t : Turn) (l : List (Entry X)) (n : ℕ) → next t l ≡ Some n → any (λ e. is_head t n e) l ≡ true
+  pub next_head : (t : Turn) (l : List (Entry X)) (n : ℕ) → next t l ≡ Some n → list_any (λ e. is_head t n e) l ≡ true
   unfolding next is_head
-  next_head t l n h = any_kept (λ e. eqb n e.number) (λ e. of_group t.guid e) (λ e. of_group t.guid e && eqb n e.number) (λ e p q. and_true (of_group t.guid e) _ p q) l (lowest_number_attained (keep (λ e. of_group t.guid e) l) n h)
+  next_head t l n h = any_kept (λ e. eqb n e.number) (λ e. of_group t.guid e) (λ e. of_group t.guid e && eqb n e.number) (λ e p q. and_true (of_group t.guid e) _ p q) l (lowest_number_attained (filter (λ e. of_group t.guid e) l) n h)
 
-  pub ended_there : (g : Guid) (l : List (Entry X)) (z : ℤ) → lowest_ended g l ≡ Some z → any (λ h. in_set g z h && marks h) l ≡ true
+  pub ended_there : (g : Guid) (l : List (Entry X)) (z : ℤ) → lowest_ended g l ≡ Some z → list_any (λ h. in_set g z h && marks h) l ≡ true
   unfolding lowest_ended in_set
-  ended_there g l z h = any_kept (λ x. is_set z x.set) (λ x. of_group g x && marks x) (λ x. of_group g x && is_set z x.set && marks x) (λ x p q. and_true (of_group g x && is_set z x.set) (marks x) (and_true (of_group g x) _ (and_left (of_group g x) _ p) q) (and_right (of_group g x) _ p)) l (lowest_set_attained (keep (λ x. of_group g x && marks x) l) z h)
+  ended_there g l z h = any_kept (λ x. is_set z x.set) (λ x. of_group g x && marks x) (λ x. of_group g x && is_set z x.set && marks x) (λ x p q. and_true (of_group g x && is_set z x.set) (marks x) (and_true (of_group g x) _ (and_left (of_group g x) _ p) q) (and_right (of_group g x) _ p)) l (lowest_set_attained (filter (λ x. of_group g x && marks x) l) z h)
 
-  pub stale_there : (e : Entry X) (l : List (Entry X)) (z : ℤ) → lowest_stale e l ≡ Some z → any (λ h. in_set e.group z h && is_stale e l h) l ≡ true
+  pub stale_there : (e : Entry X) (l : List (Entry X)) (z : ℤ) → lowest_stale e l ≡ Some z → list_any (λ h. in_set e.group z h && is_stale e l h) l ≡ true
   unfolding lowest_stale in_set is_stale
-  stale_there e l z h = any_kept (λ x. is_set z x.set) (λ x. is_stale e l x) (λ x. of_group e.group x && is_set z x.set && is_stale e l x) (λ x p q. and_true (of_group e.group x && is_set z x.set) (is_stale e l x) (and_true (of_group e.group x) _ (and_left (of_group e.group x) _ (and_left (of_group e.group x && not (any (λ m. shares x m && marks m) l)) _ p)) q) p) l (lowest_set_attained (keep (λ x. is_stale e l x) l) z h)
+  stale_there e l z h = any_kept (λ x. is_set z x.set) (λ x. is_stale e l x) (λ x. of_group e.group x && is_set z x.set && is_stale e l x) (λ x p q. and_true (of_group e.group x && is_set z x.set) (is_stale e l x) (and_true (of_group e.group x) _ (and_left (of_group e.group x) _ (and_left (of_group e.group x && not (list_any (λ m. shares x m && marks m) l)) _ p)) q) p) l (lowest_set_attained (filter (λ x. is_stale e l x) l) z h)

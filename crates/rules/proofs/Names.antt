@@ -6,7 +6,7 @@ use mathlib.Core.List.{List, [], ◌∷◌, map, map-append}
 use Rattle.std.specs.Prelude.{Option, Some, None}
 use lib.IntN.{ℤ}
 use Rattle.guids.specs.Guid.{Guid}
-use Rattle.rules.specs.Entry.{What, sample, set_end, Entry, is_sample_w, is_sample, of_group, in_set, of_pair, is_member, is_end_of, marks}
+use Rattle.rules.specs.Entry.{What, Sample, End, set_end, Entry, is_sample_w, is_sample, of_group, in_set, of_pair, is_member, is_end_of, marks}
 use Rattle.rules.specs.Offer.{shares, replaced, marked, keep_end}
 use Rattle.rules.specs.Sets.{Pair, lesser, lowest_set, lowest_ended, end_missing, members_of, members_of_pair, agrees_w, agrees_e, agrees, whole, without, is_stale, lowest_stale}
 use Rattle.rules.specs.Commit.{Turn, least, is_head, head_of, lowest_number, next, copies_arrived, ready}
@@ -44,8 +44,8 @@ module _ {X Y : Type 0} (f : X → Y) where
   time_map e = refl
 
   pub is_sample_w_map : (w : What X) → is_sample_w (map_what f w) ≡ is_sample_w w
-  is_sample_w_map (sample x) = refl
-  is_sample_w_map (set_end a b) = refl
+  is_sample_w_map (Sample x) = refl
+  is_sample_w_map (End u) = refl
 
   pub is_sample_map : (e : Entry X) → is_sample (map_entry f e) ≡ is_sample e
   unfolding is_sample map_entry
@@ -115,8 +115,8 @@ module _ {X Y : Type 0} (f : X → Y) where
   members_of_pair_map g z p l = simp (count_map, is_member_map, of_pair_map)
 
   agrees_w_map : (m : ℕ) (w : What X) → agrees_w m (map_what f w) ≡ agrees_w m w
-  agrees_w_map m (sample x) = refl
-  agrees_w_map m (set_end a b) = refl
+  agrees_w_map m (Sample x) = refl
+  agrees_w_map m (End u) = refl
 
   agrees_e_map : (m : ℕ) (o : Option (Entry X)) → agrees_e m (map_found o) ≡ agrees_e m o
   agrees_e_map m None = refl

@@ -7,7 +7,7 @@ use lib.ListN.{length-map}
 use Rattle.guids.specs.Guid.{Guid}
 use Rattle.rules.specs.Entry.{Entry, of_group}
 use Rattle.rules.specs.State.{State, Group, Writer, stored}
-use Rattle.rules.specs.Offer.{Offer, Fate, is_stored, is_joined, is_late, ninth, pair33, with_marks, entry_of, shares, mark_of, join, fate_of, adds, offer_refusal, place, heard_offer, offered, offer, Heartbeat, Gap, done, heartbeat, gap}
+use Rattle.rules.specs.Offer.{Offer, Fate, Stored, Joined, Late, ninth, pair33, with_marks, entry_of, shares, mark_of, join, fate_of, adds, offer_refusal, place, heard_offer, offered, offer, Heartbeat, Gap, done, heartbeat, gap}
 use Rattle.rules.specs.Names.{map_entry, map_state, map_offer}
 use Rattle.laws.proofs.Lists.{any_map, find_map}
 use Rattle.rules.proofs.Names.{maps, map_found, is_sample_w_map, replaced_map, keep_end_map}
@@ -47,9 +47,9 @@ module _ {X Y : Type 0} (f : X → Y) where
 
   pub adds_map : (a : Fate) (s : State X) (o : Offer X) → adds a (map_state f s) (map_offer f o) ≡ adds a s o
   unfolding adds map_state
-  adds_map is_stored s o = refl
-  adds_map is_joined s o = simp (entry_of_map, any_map, replaced_map f)
-  adds_map is_late s o = refl
+  adds_map Stored s o = refl
+  adds_map Joined s o = simp (entry_of_map, any_map, replaced_map f)
+  adds_map Late s o = refl
 
   pub offer_refusal_map : (s : State X) (o : Offer X) → offer_refusal (map_state f s) (map_offer f o) ≡ offer_refusal s o
   unfolding offer_refusal
@@ -57,9 +57,9 @@ module _ {X Y : Type 0} (f : X → Y) where
 
   pub place_map : (a : Fate) (e : Entry X) (s : State X) → place a (map_entry f e) (map_state f s) ≡ map_state f (place a e s)
   unfolding place map_state
-  place_map is_stored e s = simp map-append
-  place_map is_joined e s = simp join_map
-  place_map is_late e s = refl
+  place_map Stored e s = simp map-append
+  place_map Joined e s = simp join_map
+  place_map Late e s = refl
 
   with_marks_map : (gs : List Group) (ws : List Writer) (s : State X) → with_marks gs ws (map_state f s) ≡ map_state f (with_marks gs ws s)
   unfolding with_marks map_state

@@ -8,7 +8,7 @@ use lib.IntN.{ℤ}
 use lib.ListN.{length-map}
 use Rattle.laws.specs.Answer.{Answer, refused, answered}
 use Rattle.guids.specs.Guid.{Guid}
-use Rattle.rules.specs.Entry.{What, sample, set_end, Entry}
+use Rattle.rules.specs.Entry.{What, Sample, End, set_end, Entry}
 use Rattle.rules.specs.State.{State, Group}
 use Rattle.rules.specs.Commit.{Turn}
 use Rattle.rules.specs.Release.{Work, discard, hand_out, finish_if, finish, discard_or, discard_stale, with_held, with_out, mark_or, settle, commit_one, commit_all, commit, commit_if, head_step, finish_or, waits, end_step, round, or_stop, rounds, enough, Outcome, View, at_group, release_group, release_all, work_of, back_to, released, samples, release_refusal, released_if, release}
@@ -82,10 +82,10 @@ module _ {X Y : Type 0} (f : X → Y) where
 
   pub settle_map : (e : Entry X) (w : Work X) (a : What X) (s : Option ℤ) → settle (map_entry f e) (map_work w) (map_what f a) s ≡ map_work (settle e w a s)
   unfolding with_held with_out map_work
-  settle_map e w (sample x) None = simp map-append
-  settle_map e w (sample x) (Some z) = simp map-append
-  settle_map e w (set_end a b) None = refl
-  settle_map e w (set_end a b) (Some z) = simp (time_map f, find_map, shares_map f, marks_map f, mark_or_map, keep_end_map f)
+  settle_map e w (Sample x) None = simp map-append
+  settle_map e w (Sample x) (Some z) = simp map-append
+  settle_map e w (End u) None = refl
+  settle_map e w (End u) (Some z) = simp (time_map f, find_map, shares_map f, marks_map f, mark_or_map, keep_end_map f)
 
   pub commit_one_map : (e : Entry X) (w : Work X) → commit_one (map_entry f e) (map_work w) ≡ map_work (commit_one e w)
   unfolding commit_one

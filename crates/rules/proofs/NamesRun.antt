@@ -4,7 +4,7 @@ use mathlib.Core.Path.{◌≡◌, refl, sym, ap, ◌∙◌}
 use mathlib.Core.List.{List, [], ◌∷◌, map}
 use Prim.{Unit}
 use Rattle.laws.specs.Answer.{Answer, refused, answered}
-use Rattle.rules.specs.Entry.{What, sample, set_end}
+use Rattle.rules.specs.Entry.{What, Sample, End, set_end}
 use Rattle.rules.specs.State.{State, fresh}
 use Rattle.rules.specs.Offer.{Fate}
 use Rattle.rules.specs.Release.{Outcome}
@@ -64,8 +64,8 @@ module _ {X Y : Type 0} (f : X → Y) where
 -- ---- names
 
 what_unname : (k : ℕ) (w : What ℕ) → map_what unname (map_what (λ i. (k, i)) w) ≡ w
-what_unname k (sample i) = refl
-what_unname k (set_end a b) = refl
+what_unname k (Sample i) = refl
+what_unname k (End u) = refl
 
 pub call_unname : (k : ℕ) (c : Call ℕ) → map_call unname (map_call (λ i. (k, i)) c) ≡ c
 unfolding map_call map_offer

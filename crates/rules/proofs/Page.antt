@@ -9,10 +9,10 @@ use native.Mathlib.Nat.{le_of_suc-le-suc}
 use lib.Dec.{ltb, leb, eqb}
 use lib.ListN.{length, get_or, replicate, length-append, length-replicate}
 use borrow.Author.Tests.{ltb-false, le-leb, eqb-true, eqb-false, eq-eqb, ne_eqb}
-use Rattle.laws.specs.Lists.{keep, all, find}
+use Rattle.laws.specs.Lists.{filter, list_all, find}
 use Rattle.rules.specs.Entry.{Entry, is_sample}
 use Rattle.rules.specs.State.{State, Group, stored}
-use Rattle.rules.specs.Offer.{Offer, Fate, is_stored, is_joined, is_late, replaced, marked, mark_of, keep_end, join, entry_of, fate_of, offer_refusal, refusal, ninth, pair33, adds, place, heard_offer, offered, offer, with_marks}
+use Rattle.rules.specs.Offer.{Offer, Fate, Stored, Joined, Late, replaced, marked, mark_of, keep_end, join, entry_of, fate_of, offer_refusal, refusal, ninth, pair33, adds, place, heard_offer, offered, offer, with_marks}
 use Rattle.rules.specs.Release.{View, turn_of, work_of, back_to, released, release_refusal, released_if, release}
 use Rattle.rules.specs.Run.{Call, offers, heartbeats, gaps, releases, step, run}
 use Rattle.rules.specs.Page.{Row, Page, empty_row, start_rows, counted, in_row, at_row, row_of, read_entry, read_all, page_of}
@@ -100,23 +100,23 @@ unfoldable pub of_eight : {X : Type 0} → Entry X → Bool
 of_eight e = leb e.reader 7
 
 pub record Eight {X : Type 0} (s : State X) : Type 0 where
-  pub pending : all (λ e. of_eight e) s.pending ≡ true
-  pub held : all (λ e. of_eight e) s.held ≡ true
+  pub pending : list_all (λ e. of_eight e) s.pending ≡ true
+  pub held : list_all (λ e. of_eight e) s.held ≡ true
 
 module _ {X : Type 0} where
   eight_same : (s t : State X) → t.pending ≡ s.pending → t.held ≡ s.held → Eight s → Eight t
-  eight_same s t p h e = record { pending = ap (λ l. all (λ e. of_eight e) l) p ∙ e.pending; held = ap (λ l. all (λ e. of_eight e) l) h ∙ e.held }
+  eight_same s t p h e = record { pending = ap (λ l. list_all (λ e. of_eight e) l) p ∙ e.pending; held = ap (λ l. list_all (λ e. of_eight e) l) h ∙ e.held }
 
   placed_eight : (f : Fate) (o : Offer X) (s : State X) → leb o.reader 7 ≡ true → Eight s → Eight (place f (entry_of o) s)
   unfolding place join keep_end of_eight
-  placed_eight is_stored o s h e = record { pending = all_snoc (λ e. leb e.reader 7) s.pending (entry_of o) e.pending (unfold entry_of in h); held = e.held }
-  placed_eight is_joined o s h e = record {
+  placed_eight Stored o s h e = record { pending = all_snoc (λ e. leb e.reader 7) s.pending (entry_of o) e.pending (unfold entry_of in h); held = e.held }
+  placed_eight Joined o s h e = record {
     pending = e.pending;
     held =
-        all_snoc (λ e. leb e.reader 7) (keep (λ h. not (replaced (entry_of o) h)) s.held) (marked (mark_of (find (λ h. replaced (entry_of o) h) s.held)) (entry_of o))
+        all_snoc (λ e. leb e.reader 7) (filter (λ h. not (replaced (entry_of o) h)) s.held) (marked (mark_of (find (λ h. replaced (entry_of o) h) s.held)) (entry_of o))
         (all_keep (λ e. leb e.reader 7) (λ h. not (replaced (entry_of o) h)) s.held e.held) (unfold marked entry_of in h);
   }
-  placed_eight is_late o s h e = record { pending = e.pending; held = e.held }
+  placed_eight Late o s h e = record { pending = e.pending; held = e.held }
 
   offered_eight : (r : Option ℕ) (o : Offer X) (s : State X) → (r ≡ None → leb o.reader 7 ≡ true) → Eight s → Eight (offered r s o).1
   unfolding heard_offer with_marks

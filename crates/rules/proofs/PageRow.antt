@@ -10,7 +10,7 @@ use native.Mathlib.Nat.{le_of_suc-le-suc}
 use lib.Dec.{ltb, eqb}
 use lib.ListN.{length, get_or, replicate}
 use borrow.Author.Tests.{ltb-true, ltb-false, leb-true, eqb-true, eqb-false, eq-eqb, ne_eqb}
-use Rattle.laws.specs.Lists.{keep, all, count, index_of}
+use Rattle.laws.specs.Lists.{filter, list_all, count, index_of}
 use Rattle.guids.specs.Guid.{Guid, same_guid, before}
 use Rattle.guids.proofs.Guids.{same_eq, same_sym, after_not_same}
 use Rattle.rules.specs.Entry.{Entry, is_sample, of_group}
@@ -70,16 +70,16 @@ module _ {X : Type 0} (gs : List Group) (k : ℕ) where
       ]
 
   abbrev grown_by : Bool → List (Entry X) → Option Row → Option Row
-  grown_by b l o = in_row (grown b (count (λ e. at_place e) l) (map (λ e. e.time) (keep (λ e. at_place e) l))) o
+  grown_by b l o = in_row (grown b (count (λ e. at_place e) l) (map (λ e. e.time) (filter (λ e. at_place e) l))) o
 
   walk_row : (b : Bool) (l : List (Entry X)) (p : Page) → get_or (read_all b gs l p).rows k None ≡ grown_by b l (get_or p.rows k None)
-  unfolding read_all count keep
+  unfolding read_all count
   walk_row b [] p = grown_none b (get_or p.rows k None)
   walk_row b (e ∷ l) p =
       let o : Option Row = get_or p.rows k None in
       walk_row b l (read_entry b gs e p) ∙ ap (λ x. grown_by b l x) (read_row b e p)
-      ∙ (elim (at_place e) as (λ d. grown_by b l (cond d (in_row (counted b e.time) o) o) ≡ in_row (grown b (length (cond d (e ∷ keep (λ e. at_place e) l) (keep (λ e. at_place e) l))) (map (λ e. e.time) (cond d (e ∷ keep (λ e. at_place e) l) (keep (λ e. at_place e) l)))) o) [
-        | true ↦ grown_more b (count (λ e. at_place e) l) (map (λ e. e.time) (keep (λ e. at_place e) l)) e.time o
+      ∙ (elim (at_place e) as (λ d. grown_by b l (cond d (in_row (counted b e.time) o) o) ≡ in_row (grown b (length (cond d (e ∷ filter (λ e. at_place e) l) (filter (λ e. at_place e) l))) (map (λ e. e.time) (cond d (e ∷ filter (λ e. at_place e) l) (filter (λ e. at_place e) l)))) o) [
+        | true ↦ grown_more b (count (λ e. at_place e) l) (map (λ e. e.time) (filter (λ e. at_place e) l)) e.time o
         | false ↦ refl
       ])
 
@@ -114,13 +114,11 @@ start_absent (suc k) (suc j) q (g ∷ gs) h =
     ∙ get_behind 8 (8 * j + q) (Some empty_row) None (start_rows k gs) ∙ start_absent k j q gs (le_of_suc-le-suc h)
 
 -- two tests that agree where a third holds keep the same of a list whose every one passes it
-keep_where : {A : Type 0} (p q c : A → Bool) → ((a : A) → c a ≡ true → p a ≡ q a) → (l : List A) → all c l ≡ true → keep p l ≡ keep q l
-unfolding keep all
+keep_where : {A : Type 0} (p q c : A → Bool) → ((a : A) → c a ≡ true → p a ≡ q a) → (l : List A) → list_all c l ≡ true → filter p l ≡ filter q l
 keep_where p q c h [] e = refl
 keep_where p q c h (a ∷ l) e = rw (h a (and_left (c a) _ e), keep_where p q c h l (and_right (c a) _ e))
 
-all_get : {A : Type 0} (p : A → Bool) (l : List A) (i : ℕ) (z : A) → all p l ≡ true → i < length l → p (get_or l i z) ≡ true
-unfolding all
+all_get : {A : Type 0} (p : A → Bool) (l : List A) (i : ℕ) (z : A) → list_all p l ≡ true → i < length l → p (get_or l i z) ≡ true
 all_get p [] i z h c = absurd (omega arith)
 all_get p (a ∷ l) zero z h c = and_left (p a) _ h
 all_get p (a ∷ l) (suc i) z h c = all_get p l i z (and_right (p a) _ h) (le_of_suc-le-suc c)
@@ -135,11 +133,11 @@ place_of_lem h [] j a l = absurd (omega arith)
 place_of_lem h (g ∷ gs) zero a l =
     rw (same_sym h g.guid) (elim (same_guid h g.guid) as (λ b. eqb (cond b 0 (suc (index_of (λ x. same_guid h x.guid) gs))) 0 ≡ b) [ true ↦ eq-eqb 0 0 refl | false ↦ ne_eqb (suc (index_of (λ x. same_guid h x.guid) gs)) 0 (λ e. omega (arith, e)) ])
 place_of_lem h (g ∷ gs) (suc j) a l =
-    let i = place_of_lem h gs j (and_right (all (λ x. before g.guid x.guid) gs) _ a) (le_of_suc-le-suc l) in
+    let i = place_of_lem h gs j (and_right (list_all (λ x. before g.guid x.guid) gs) _ a) (le_of_suc-le-suc l) in
     (elim (same_guid h g.guid) as (λ b. same_guid h g.guid ≡ b → eqb (cond b 0 (suc (index_of (λ x. same_guid h x.guid) gs))) (suc j) ≡ same_guid (get_or gs j no_group).guid h) [
       | true ↦ λ e.
           ne_eqb 0 (suc j) (λ z. omega (arith, z))
-          ∙ sym (ap (λ x. same_guid (get_or gs j no_group).guid x) (same_eq h g.guid e) ∙ after_not_same (get_or gs j no_group).guid g.guid (all_get (λ x. before g.guid x.guid) gs j no_group (and_left (all (λ x. before g.guid x.guid) gs) _ a) (le_of_suc-le-suc l)))
+          ∙ sym (ap (λ x. same_guid (get_or gs j no_group).guid x) (same_eq h g.guid e) ∙ after_not_same (get_or gs j no_group).guid g.guid (all_get (λ x. before g.guid x.guid) gs j no_group (and_left (list_all (λ x. before g.guid x.guid) gs) _ a) (le_of_suc-le-suc l)))
       | false ↦ λ e. rw compare.suc-suc i
     ]) refl
 
@@ -166,7 +164,7 @@ module _ {X : Type 0} (s : State X) (order : ascending s.groups ≡ true) (j r :
       ap (λ b. is_sample e && b) (apart (index_of (λ x. is_group e.group x) s.groups) e.reader j r (leb-true e.reader 7 h) c)
       ∙ ap (λ b. is_sample e && (b && eqb r e.reader)) (place_of_lem e.group s.groups j order l)
 
-  kept_cell : j < length s.groups → (l : List (Entry X)) → all (λ e. of_eight e) l ≡ true → keep (λ e. at_place s.groups (8 * j + r) e) l ≡ keep (λ e. in_cell g r e) l
+  kept_cell : j < length s.groups → (l : List (Entry X)) → list_all (λ e. of_eight e) l ≡ true → filter (λ e. at_place s.groups (8 * j + r) e) l ≡ filter (λ e. in_cell g r e) l
   kept_cell h l e = keep_where (λ e. at_place s.groups (8 * j + r) e) (λ e. in_cell g r e) (λ e. of_eight e) (in_cell_lem h) l e
 
   -- of a known group: what its samples at the reader come to
@@ -175,12 +173,12 @@ module _ {X : Type 0} (s : State X) (order : ascending s.groups ≡ true) (j r :
   row_known i few h =
       let start : Page = record { rows = start_rows 8 s.groups; read = 0 } in
       let k : ℕ = 8 * j + r in
-      let n : List (Entry X) → ℕ = λ l. length (keep (λ e. in_cell g r e) l) in
-      let t : List (Entry X) → List ℕ = λ l. map (λ e. e.time) (keep (λ e. in_cell g r e) l) in
+      let n : List (Entry X) → ℕ = λ l. length (filter (λ e. in_cell g r e) l) in
+      let t : List (Entry X) → List ℕ = λ l. map (λ e. e.time) (filter (λ e. in_cell g r e) l) in
       let p = kept_cell i s.pending h.pending in
       let q = kept_cell i s.held h.held in
       let z : in_row (grown false (n s.held) (t s.held)) (in_row (grown true (n s.pending) (t s.pending)) (Some empty_row)) ≡ Some (record { pending = n s.pending; held = n s.held; oldest = oldest_of (t (s.pending ++ s.held)) })
-      = grown_empty (n s.pending) (n s.held) (t s.pending) (t s.held) (t (s.pending ++ s.held)) (ap (map (λ e. e.time)) (keep_append (λ e. in_cell g r e) s.pending s.held) ∙ map-append (λ e. e.time) (keep (λ e. in_cell g r e) s.pending) (keep (λ e. in_cell g r e) s.held)) in
+      = grown_empty (n s.pending) (n s.held) (t s.pending) (t s.held) (t (s.pending ++ s.held)) (ap (map (λ e. e.time)) (keep_append (λ e. in_cell g r e) s.pending s.held) ∙ map-append (λ e. e.time) (filter (λ e. in_cell g r e) s.pending) (filter (λ e. in_cell g r e) s.held)) in
       walk_row s.groups k false s.held (read_all true s.groups s.pending start)
       ∙ ap (λ o. grown_by s.groups k false s.held o) (walk_row s.groups k true s.pending start)
       ∙ ap (λ o. grown_by s.groups k false s.held (grown_by s.groups k true s.pending o)) (start_known 8 j r s.groups i (omega (arith, i, few)) c)
@@ -203,7 +201,7 @@ pub page_row : {X : Type 0} (t : ℕ) (cs : List (Call X)) (j r : ℕ) → r < 8
 page_row {X} t cs j r c =
     let s : State X = run (fresh t) cs in
     let h : Reached s = run_reached cs (fresh t) (fresh_reached t) in
-    let e : Eight s = run_eight (fresh t) cs (unfold fresh all in record { pending = refl; held = refl }) in
+    let e : Eight s = run_eight (fresh t) cs (unfold fresh in record { pending = refl; held = refl }) in
     (elim (ltb j (length s.groups)) as (λ b. ltb j (length s.groups) ≡ b → get_or (page_of s).rows (8 * j + r) None ≡ cond b (Some (cell s (get_or s.groups j no_group).guid r)) None) [
       | true ↦ λ l. row_known s h.groups_ordered j r c (ltb-true j (length s.groups) l) h.most_groups e
       | false ↦ λ l. row_absent s h.groups_ordered j r c (omega (arith, ltb-false j (length s.groups) l))

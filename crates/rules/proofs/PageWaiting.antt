@@ -8,7 +8,7 @@ use native.Mathlib.Omega.{arith}
 use lib.Dec.{leb, eqb}
 use lib.ListN.{length, get_or, replicate}
 use borrow.Author.Tests.{le-ltb, leb-true, eqb-true, eqb-false, eq-eqb, ne_eqb}
-use Rattle.laws.specs.Lists.{all, any, count, index_of, is_some}
+use Rattle.laws.specs.Lists.{list_all, list_any, count, index_of, is_some}
 use Rattle.guids.specs.Guid.{Guid}
 use Rattle.rules.specs.Entry.{Entry, is_sample}
 use Rattle.rules.specs.State.{State, Group, fresh, is_group, knows_group, knows_writer}
@@ -70,9 +70,9 @@ unfoldable pub in_rows : ℕ → List (Option Row) → ℕ
 in_rows r l = sum_below 8 (λ k. amount (get_or l (8 * k + r) None))
 
 known_place : (g : Guid) (l : List Group) → knows_group g l ≡ true → index_of (λ x. is_group g x) l < length l
-unfolding knows_group any index_of
+unfolding knows_group index_of
 known_place g [] h = not_both false h refl
-known_place g (x ∷ l) h = (elim (is_group g x) as (λ b. b || any (λ x. is_group g x) l ≡ true → cond b 0 (suc (index_of (λ x. is_group g x) l)) < suc (length l)) [ true ↦ λ e. omega arith | false ↦ λ e. omega (arith, known_place g l e) ]) h
+known_place g (x ∷ l) h = (elim (is_group g x) as (λ b. b || list_any (λ x. is_group g x) l ≡ true → cond b 0 (suc (index_of (λ x. is_group g x) l)) < suc (length l)) [ true ↦ λ e. omega arith | false ↦ λ e. omega (arith, known_place g l e) ]) h
 
 -- the entry's group is known and its reader is one of eight
 unfoldable pub placed : {X : Type 0} → List Group → Entry X → Bool
@@ -121,9 +121,9 @@ module _ {X : Type 0} (gs : List Group) (few : length gs ≤ 8) where
             )
       ]) refl
 
-  read_rows : (b : Bool) (r : ℕ) → r < 8 → (l : List (Entry X)) (p : Page) → all (λ e. placed gs e) l ≡ true → There gs p.rows
+  read_rows : (b : Bool) (r : ℕ) → r < 8 → (l : List (Entry X)) (p : Page) → list_all (λ e. placed gs e) l ≡ true → There gs p.rows
       → (in_rows r (read_all b gs l p).rows ≡ in_rows r p.rows + count (λ e. is_sample e && eqb r e.reader) l) × There gs (read_all b gs l p).rows
-  unfolding read_all read_entry all
+  unfolding read_all read_entry
   read_rows b r c [] p h t = (omega (arith, count_nil {A = Entry X} (λ e. is_sample e && eqb r e.reader)), t)
   read_rows b r c (e ∷ l) p h t =
       let f : Row → Row = counted b e.time in
@@ -138,7 +138,7 @@ module _ {X : Type 0} (gs : List Group) (few : length gs ≤ 8) where
       ]) refl
 
 -- for a reader, pending and held over its rows are its waiting figure
-pub page_waiting_of : {X : Type 0} (s : State X) → length s.groups ≤ 8 → all (λ e. placed s.groups e) s.pending ≡ true → all (λ e. placed s.groups e) s.held ≡ true
+pub page_waiting_of : {X : Type 0} (s : State X) → length s.groups ≤ 8 → list_all (λ e. placed s.groups e) s.pending ≡ true → list_all (λ e. placed s.groups e) s.held ≡ true
     → (r : ℕ) → r < 8 → in_rows r (page_of s).rows ≡ waiting s r
 unfolding page_of waiting sum_below
 page_waiting_of s few p h r c =
@@ -151,7 +151,7 @@ page_waiting_of s few p h r c =
 -- ---- of every state that calls reach
 
 module _ {X : Type 0} where
-  entries_placed : (s : State X) → Reached s → (l : List (Entry X)) → all (λ e. knows_writer e.group e.writer s.writers) l ≡ true → all (λ e. of_eight e) l ≡ true → all (λ e. placed s.groups e) l ≡ true
+  entries_placed : (s : State X) → Reached s → (l : List (Entry X)) → list_all (λ e. knows_writer e.group e.writer s.writers) l ≡ true → list_all (λ e. of_eight e) l ≡ true → list_all (λ e. placed s.groups e) l ≡ true
   unfolding placed of_eight
   entries_placed s r l k e =
       all_imp (λ e. knows_writer e.group e.writer s.writers && leb e.reader 7) (λ e. knows_group e.group s.groups && leb e.reader 7)
@@ -163,5 +163,5 @@ pub page_waiting : {X : Type 0} (t : ℕ) (cs : List (Call X)) (r : ℕ) → r <
 page_waiting {X} t cs r c =
     let s : State X = run (fresh t) cs in
     let h : Reached s = run_reached cs (fresh t) (fresh_reached t) in
-    let e : Eight s = run_eight (fresh t) cs (unfold fresh all in record { pending = refl; held = refl }) in
+    let e : Eight s = run_eight (fresh t) cs (unfold fresh in record { pending = refl; held = refl }) in
     page_waiting_of s h.most_groups (entries_placed s h s.pending h.pending_known e.pending) (entries_placed s h s.held h.held_known e.held) r c

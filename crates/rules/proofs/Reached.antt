@@ -8,12 +8,12 @@ use native.Mathlib.Omega.{arith}
 use lib.Dec.{leb, ltb}
 use lib.ListN.{length, length-append}
 use borrow.Author.Tests.{leb-false, ltb-false, le-leb}
-use Rattle.laws.specs.Lists.{keep, all, any, count, find, change}
+use Rattle.laws.specs.Lists.{filter, list_all, list_any, count, find, change}
 use Rattle.guids.specs.Guid.{Guid, same_guid, before}
 use Rattle.rules.specs.Entry.{Entry, is_sample_w, of_group}
-use Rattle.rules.specs.State.{State, Group, Writer, Counts, fresh, is_group, is_writer, knows_group, knows_writer, committed_of, stored}
+use Rattle.rules.specs.State.{State, Group, Writer, ReleaseCounts, fresh, is_group, is_writer, knows_group, knows_writer, committed_of, stored}
 use Rattle.rules.specs.Marks.{number, hear_group, tell, saw, gapped, announced, announced_to}
-use Rattle.rules.specs.Offer.{Offer, Fate, is_stored, is_joined, is_late, Heartbeat, Gap, refusal, fate, one_late, ninth, pair33, with_marks, entry_of, shares, replaced, marked, keep_end, mark_of, join, fate_of, adds, offer_refusal, place, heard_offer, offered, offer, done, heartbeat, gap}
+use Rattle.rules.specs.Offer.{Offer, Fate, Stored, Joined, Late, Heartbeat, Gap, refusal, fate, one_late, ninth, pair33, with_marks, entry_of, shares, replaced, marked, keep_end, mark_of, join, fate_of, adds, offer_refusal, place, heard_offer, offered, offer, done, heartbeat, gap}
 use Rattle.rules.specs.Commit.{Turn}
 use Rattle.rules.specs.Release.{Work, View, turn_of, work_of, back_to, release_all, released, release_refusal, released_if, release}
 use Rattle.rules.specs.Run.{Call, offers, heartbeats, gaps, releases, step, run}
@@ -26,31 +26,31 @@ use Rattle.rules.proofs.Keeping.{join_all, above, up_to, above_each, up_to_each,
 
 -- ---- a number against its group's committed, and against each group's
 
-own_of : (r : ℕ → Bool) (h : Guid) (gs : List Group) → ascending gs ≡ true → r (committed_of h gs) ≡ true → all (λ x. not (same_guid x.guid h) || r x.committed) gs ≡ true
-unfolding ascending all
+own_of : (r : ℕ → Bool) (h : Guid) (gs : List Group) → ascending gs ≡ true → r (committed_of h gs) ≡ true → list_all (λ x. not (same_guid x.guid h) || r x.committed) gs ≡ true
+unfolding ascending
 own_of r h [] a e = refl
 own_of r h (g ∷ gs) a e =
-    (elim (same_guid h g.guid) as (λ b. same_guid h g.guid ≡ b → r (cond b g.committed (committed_of h gs)) ≡ true → all (λ x. not (same_guid x.guid h) || r x.committed) (g ∷ gs) ≡ true) [
+    (elim (same_guid h g.guid) as (λ b. same_guid h g.guid ≡ b → r (cond b g.committed (committed_of h gs)) ≡ true → list_all (λ x. not (same_guid x.guid h) || r x.committed) (g ∷ gs) ≡ true) [
       | true ↦ λ d k.
           and_true (not (same_guid g.guid h) || r g.committed) _ (or_true_right (not (same_guid g.guid h)) _ k)
-          (all_imp (λ (x : Group). before g.guid x.guid) (λ x. not (same_guid x.guid h) || r x.committed) (λ x b. or_true_left (not (same_guid x.guid h)) _ (rw (same_eq h g.guid d, after_not_same x.guid g.guid b))) gs (and_left (all (λ x. before g.guid x.guid) gs) _ a))
+          (all_imp (λ (x : Group). before g.guid x.guid) (λ x. not (same_guid x.guid h) || r x.committed) (λ x b. or_true_left (not (same_guid x.guid h)) _ (rw (same_eq h g.guid d, after_not_same x.guid g.guid b))) gs (and_left (list_all (λ x. before g.guid x.guid) gs) _ a))
       | false ↦ λ d k.
           and_true (not (same_guid g.guid h) || r g.committed) _ (or_true_left (not (same_guid g.guid h)) _ (ap not (same_sym h g.guid ∙ d)))
-          (own_of r h gs (and_right (all (λ x. before g.guid x.guid) gs) _ a) k)
+          (own_of r h gs (and_right (list_all (λ x. before g.guid x.guid) gs) _ a) k)
     ]) refl (rw (committed_cons h g gs) at e)
 
-of_own : (r : ℕ → Bool) (h : Guid) (gs : List Group) → knows_group h gs ≡ true → all (λ x. not (same_guid x.guid h) || r x.committed) gs ≡ true → r (committed_of h gs) ≡ true
-unfolding knows_group is_group any all
+of_own : (r : ℕ → Bool) (h : Guid) (gs : List Group) → knows_group h gs ≡ true → list_all (λ x. not (same_guid x.guid h) || r x.committed) gs ≡ true → r (committed_of h gs) ≡ true
+unfolding knows_group is_group
 of_own r h [] k e = not_both false k refl
 of_own r h (g ∷ gs) k e =
     rw (committed_cons h g gs)
-    ((elim (same_guid h g.guid) as (λ b. same_guid h g.guid ≡ b → b || any (λ x. same_guid h x.guid) gs ≡ true → r (cond b g.committed (committed_of h gs)) ≡ true) [
+    ((elim (same_guid h g.guid) as (λ b. same_guid h g.guid ≡ b → b || list_any (λ x. same_guid h x.guid) gs ≡ true → r (cond b g.committed (committed_of h gs)) ≡ true) [
       | true ↦ λ d u. rw (same_sym h g.guid, d) at (and_left (not (same_guid g.guid h) || r g.committed) _ e)
       | false ↦ λ d u. of_own r h gs u (and_right (not (same_guid g.guid h) || r g.committed) _ e)
     ]) refl k)
 
 -- a known writer's group is known
-pub writer_group : (h v : Guid) (gs : List Group) (ws : List Writer) → all (λ w. knows_group w.group gs) ws ≡ true → knows_writer h v ws ≡ true → knows_group h gs ≡ true
+pub writer_group : (h v : Guid) (gs : List Group) (ws : List Writer) → list_all (λ w. knows_group w.group gs) ws ≡ true → knows_writer h v ws ≡ true → knows_group h gs ≡ true
 unfolding knows_writer is_writer
 writer_group h v gs ws a k = any_all (λ (x : Writer). same_guid h x.group && same_guid v x.writer) (λ w. knows_group w.group gs) (λ x d e. rw (same_eq h x.group (and_left (same_guid h x.group) _ d)) e) ws k a
 
@@ -66,12 +66,12 @@ unfolding refusal
 refusal_rest n true l e = none_not_some (Some n) n e refl
 refusal_rest n false l e = e
 
-fate_stored : (b j : Bool) → fate b j ≡ is_stored → b ≡ true
+fate_stored : (b j : Bool) → fate b j ≡ Stored → b ≡ true
 fate_stored true j e = refl
 fate_stored false true e = cc
 fate_stored false false e = cc
 
-fate_joined : (b j : Bool) → fate b j ≡ is_joined → b ≡ false
+fate_joined : (b j : Bool) → fate b j ≡ Joined → b ≡ false
 fate_joined true j e = cc
 fate_joined false j e = refl
 
@@ -95,9 +95,9 @@ module _ {X : Type 0} where
 
   -- a test of each known entry against each group is one against its own
   back : (p : List Group → Entry X → Bool) (r : ℕ → ℕ → Bool) (gs : List Group) (ws : List Writer)
-      → ((e : Entry X) → p gs e ≡ all (λ x. not (same_guid x.guid e.group) || r e.number x.committed) gs)
-      → all (λ w. knows_group w.group gs) ws ≡ true → (l : List (Entry X)) → all (λ e. known ws e) l ≡ true → all (λ e. p gs e) l ≡ true
-      → all (λ e. r e.number (committed_of e.group gs)) l ≡ true
+      → ((e : Entry X) → p gs e ≡ list_all (λ x. not (same_guid x.guid e.group) || r e.number x.committed) gs)
+      → list_all (λ w. knows_group w.group gs) ws ≡ true → (l : List (Entry X)) → list_all (λ e. known ws e) l ≡ true → list_all (λ e. p gs e) l ≡ true
+      → list_all (λ e. r e.number (committed_of e.group gs)) l ≡ true
   back p r gs ws same a l k h =
       all_imp (λ (e : Entry X). known ws e && p gs e) (λ e. r e.number (committed_of e.group gs))
       (λ e d. of_own (λ c. r e.number c) e.group gs (writer_group e.group e.writer gs ws a (and_left (known ws e) _ d)) (sym (same e) ∙ and_right (known ws e) _ d))
@@ -106,12 +106,12 @@ module _ {X : Type 0} where
   -- what keeps the groups' GUIDs, the entries' writers and the numbers' bounds, and adds no entry
   kept : (s : State X) → Reached s → (gs : List Group) (w : Work X)
       → map (λ x. x.guid) gs ≡ map (λ x. x.guid) s.groups
-      → all (λ e. known s.writers e) w.pending ≡ true → all (λ e. known s.writers e) w.held ≡ true
+      → list_all (λ e. known s.writers e) w.pending ≡ true → list_all (λ e. known s.writers e) w.held ≡ true
       → Fit gs w → length w.pending + length w.held ≤ stored s
       → Reached (back_to s (gs, w))
   unfolding back_to stored
   kept s r gs w same kp kh f few =
-      let groups : all (λ x. knows_group x.group gs) s.writers ≡ true =
+      let groups : list_all (λ x. knows_group x.group gs) s.writers ≡ true =
       all_imp (λ (x : Writer). knows_group x.group s.groups) (λ x. knows_group x.group gs) (λ x d. knows_by x.group gs s.groups same ∙ d) s.writers r.groups_known
       in
       record {
@@ -132,7 +132,7 @@ module _ {X : Type 0} where
   released_reached s v now r =
       let t : Group → Turn = λ g. turn_of v now s.timeout s.writers g in
       let w : Work X = work_of s in
-      let both : (all (λ e. known s.writers e) (release_all t s.groups w).1.pending ≡ true) × (all (λ e. known s.writers e) (release_all t s.groups w).1.held ≡ true) =
+      let both : (list_all (λ e. known s.writers e) (release_all t s.groups w).1.pending ≡ true) × (list_all (λ e. known s.writers e) (release_all t s.groups w).1.held ≡ true) =
       release_all_all t (λ g. refl) (λ e. known s.writers e) (λ e. known s.writers e) (λ m e. unfold marked in refl) (λ g. true) (λ x e a b c. c) s.groups (all_always (λ g. true) (λ g. refl) s.groups) w (unfold work_of in (r.pending_known, r.held_known))
       in
       kept s r (release_all t s.groups w).0 (release_all t s.groups w).1 (release_all_guids t (λ g. refl) s.groups w) both.0 both.1
@@ -142,10 +142,10 @@ module _ {X : Type 0} where
 
   -- numbers about the same committed ones, writers that stay known
   numbers : (r : ℕ → ℕ → Bool) (gs hs : List Group) → ((h : Guid) → committed_of h hs ≡ committed_of h gs) → (l : List (Entry X))
-      → all (λ e. r e.number (committed_of e.group gs)) l ≡ true → all (λ e. r e.number (committed_of e.group hs)) l ≡ true
+      → list_all (λ e. r e.number (committed_of e.group gs)) l ≡ true → list_all (λ e. r e.number (committed_of e.group hs)) l ≡ true
   numbers r gs hs same l h = all_imp (λ (e : Entry X). r e.number (committed_of e.group gs)) (λ e. r e.number (committed_of e.group hs)) (λ e d. rw (same e.group) d) l h
 
-  writers : (ws vs : List Writer) → ((g w : Guid) → knows_writer g w ws ≡ true → knows_writer g w vs ≡ true) → (l : List (Entry X)) → all (λ e. known ws e) l ≡ true → all (λ e. known vs e) l ≡ true
+  writers : (ws vs : List Writer) → ((g w : Guid) → knows_writer g w ws ≡ true → knows_writer g w vs ≡ true) → (l : List (Entry X)) → list_all (λ e. known ws e) l ≡ true → list_all (λ e. known vs e) l ≡ true
   writers ws vs f l h = all_imp (λ (e : Entry X). known ws e) (λ e. known vs e) (λ e d. f e.group e.writer d) l h
 
   -- groups alike in GUIDs and committed numbers
@@ -184,30 +184,30 @@ module _ {X : Type 0} where
   -- ---- placing an offered entry
 
   -- the offer's number against its group's committed
-  pub stored_number : (s : State X) (o : Offer X) → fate_of s o ≡ is_stored → ltb (committed_of o.group s.groups) (number o.number) ≡ true
+  pub stored_number : (s : State X) (o : Offer X) → fate_of s o ≡ Stored → ltb (committed_of o.group s.groups) (number o.number) ≡ true
   unfolding fate_of
   stored_number s o f = fate_stored (ltb (committed_of o.group s.groups) (number o.number)) _ f
 
-  pub joined_number : (s : State X) (o : Offer X) → fate_of s o ≡ is_joined → leb (number o.number) (committed_of o.group s.groups) ≡ true
+  pub joined_number : (s : State X) (o : Offer X) → fate_of s o ≡ Joined → leb (number o.number) (committed_of o.group s.groups) ≡ true
   unfolding fate_of
-  joined_number s o f = le-leb (number o.number) (committed_of o.group s.groups) (ltb-false (committed_of o.group s.groups) (number o.number) (fate_joined (ltb (committed_of o.group s.groups) (number o.number)) (not (is_sample_w o.what) && any (λ h. shares (entry_of o) h) s.held) f))
+  joined_number s o f = le-leb (number o.number) (committed_of o.group s.groups) (ltb-false (committed_of o.group s.groups) (number o.number) (fate_joined (ltb (committed_of o.group s.groups) (number o.number)) (not (is_sample_w o.what) && list_any (λ h. shares (entry_of o) h) s.held) f))
 
   -- an end that joins: one entry more at most, and none where it replaces one
-  join_length : (e : Entry X) (l : List (Entry X)) (n k : ℕ) → k + length l ≤ n → not (any (λ h. replaced e h) l) && leb n (k + length l) ≡ false → k + length (join e l) ≤ n
+  join_length : (e : Entry X) (l : List (Entry X)) (n k : ℕ) → k + length l ≤ n → not (list_any (λ h. replaced e h) l) && leb n (k + length l) ≡ false → k + length (join e l) ≤ n
   unfolding join keep_end count
   join_length e l n k few h =
       let m : Option ℕ = mark_of (find (λ h. replaced e h) l) in
-      let a : length (keep (λ h. not (replaced e h)) l ++ (marked m e ∷ [])) ≡ length (keep (λ h. not (replaced e h)) l) + 1 = length-append (keep (λ h. not (replaced e h)) l) (marked m e ∷ []) in
-      (elim (any (λ h. replaced e h) l) as (λ b. any (λ h. replaced e h) l ≡ b → not b && leb n (k + length l) ≡ false → k + length (keep (λ h. not (replaced e h)) l ++ (marked m e ∷ [])) ≤ n) [
+      let a : length (filter (λ h. not (replaced e h)) l ++ (marked m e ∷ [])) ≡ length (filter (λ h. not (replaced e h)) l) + 1 = length-append (filter (λ h. not (replaced e h)) l) (marked m e ∷ []) in
+      (elim (list_any (λ h. replaced e h) l) as (λ b. list_any (λ h. replaced e h) l ≡ b → not b && leb n (k + length l) ≡ false → k + length (filter (λ h. not (replaced e h)) l ++ (marked m e ∷ [])) ≤ n) [
         | true ↦ λ d u. omega (arith, count_any (λ h. replaced e h) l d, length_split (λ h. replaced e h) l)
         | false ↦ λ d u. omega (arith, length_split (λ h. replaced e h) l, leb-false n (k + length l) u)
       ]) refl h
 
   -- other entries in a state
-  holding : (s : State X) → Reached s → (p h : List (Entry X)) (c : Counts)
-      → all (λ e. known s.writers e) p ≡ true → all (λ e. known s.writers e) h ≡ true
-      → all (λ e. ltb (committed_of e.group s.groups) e.number) p ≡ true
-      → all (λ e. leb e.number (committed_of e.group s.groups)) h ≡ true
+  holding : (s : State X) → Reached s → (p h : List (Entry X)) (c : ReleaseCounts)
+      → list_all (λ e. known s.writers e) p ≡ true → list_all (λ e. known s.writers e) h ≡ true
+      → list_all (λ e. ltb (committed_of e.group s.groups) e.number) p ≡ true
+      → list_all (λ e. leb e.number (committed_of e.group s.groups)) h ≡ true
       → length p + length h ≤ 256
       → Reached (record { groups = s.groups; writers = s.writers; pending = p; held = h; counts = c; timeout = s.timeout })
   unfolding stored
@@ -226,17 +226,17 @@ module _ {X : Type 0} where
 
   placed : (s : State X) (o : Offer X) (k : Fate) → Reached s → Reached (heard_offer o s) → fate_of s o ≡ k → adds k s o && leb 256 (stored s) ≡ false → Reached (place k (entry_of o) (heard_offer o s))
   unfolding place heard_offer with_marks entry_of adds fate_of stored marked
-  placed s o is_stored p r f h =
+  placed s o Stored p r f h =
       holding (heard_offer o s) r (s.pending ++ (entry_of o ∷ [])) s.held s.counts
       (all_snoc (λ e. known (heard_offer o s).writers e) s.pending (entry_of o) r.pending_known (told o s)) r.held_known
       (all_snoc (λ e. ltb (committed_of e.group (heard_offer o s).groups) e.number) s.pending (entry_of o) r.pending_above (rw (hear_committed o.group o.group s.groups) (stored_number s o f)))
       r.held_not_above (omega (arith, length-append s.pending (entry_of o ∷ []), leb-false 256 (stored s) h))
-  placed s o is_joined p r f h =
+  placed s o Joined p r f h =
       holding (heard_offer o s) r s.pending (join (entry_of o) s.held) s.counts
       r.pending_known (join_all (λ e. known (heard_offer o s).writers e) (λ m e. refl) (entry_of o) s.held (told o s) r.held_known)
       r.pending_above (join_all (λ e. leb e.number (committed_of e.group (heard_offer o s).groups)) (λ m e. refl) (entry_of o) s.held (rw (hear_committed o.group o.group s.groups) (joined_number s o f)) r.held_not_above)
       (join_length (entry_of o) s.held 256 (length s.pending) p.most_entries h)
-  placed s o is_late p r f h =
+  placed s o Late p r f h =
       holding (heard_offer o s) r s.pending s.held (one_late s.counts) r.pending_known r.held_known r.pending_above r.held_not_above r.most_entries
 
   -- ---- calls
@@ -288,7 +288,7 @@ module _ {X : Type 0} where
   -- ---- lists of calls
 
   pub fresh_reached : (t : ℕ) → Reached {X = X} (fresh t)
-  unfolding fresh ascending distinct all stored
+  unfolding fresh ascending distinct stored
   fresh_reached t = record {
     groups_ordered = refl;
     writers_once = refl;

@@ -10,7 +10,7 @@ use lib.IntN.{ℤ}
 use lib.Dec.{ltb, leb, eqb}
 use lib.ListN.{length}
 use borrow.Author.Tests.{not-false, leb-true, ltb-false, le-leb, eqb-true}
-use Rattle.laws.specs.Lists.{keep, all, any, count, find}
+use Rattle.laws.specs.Lists.{filter, list_all, list_any, count, find}
 use Rattle.guids.specs.Guid.{Guid, same_guid, before}
 use Rattle.rules.specs.Entry.{Entry, is_sample, of_group, in_set, is_member}
 use Rattle.rules.specs.State.{Group, is_group, knows_group}
@@ -56,7 +56,7 @@ module _ {X : Type 0} where
     unfolding waits is_member in_set is_above member_with
     set_stop z s e a =
         let is : Entry X → Bool = λ x. is_member t.guid z x in
-        let i : any is w.held ≡ true = not-false _ (sym (ap (λ b. b && not (any is w.held)) s) ∙ e) in
+        let i : list_any is w.held ≡ true = not-false _ (sym (ap (λ b. b && not (list_any is w.held)) s) ∙ e) in
         let (x, f) = find_some is w.held (count_any is w.held i) in
         let y : young t (Some x) ≡ true = ap (λ o. young t o) (sym f) ∙ and_right (end_missing t.guid z t.counted w.held) _ s in
         let g : of_group t.guid x ≡ true = and_left (of_group t.guid x) _ (and_left (in_set t.guid z x) _ (find_test is w.held x f)) in
@@ -90,10 +90,10 @@ module _ {X : Type 0} where
 
 module _ {X : Type 0} where
   -- tests of a group's entries count alike where the group's entries are alike
-  grouped : (g : Guid) (r : Entry X → Bool) (l k : List (Entry X)) → keep (λ e. of_group g e) l ≡ keep (λ e. of_group g e) k
+  grouped : (g : Guid) (r : Entry X → Bool) (l k : List (Entry X)) → filter (λ e. of_group g e) l ≡ filter (λ e. of_group g e) k
       → count (λ e. of_group g e && r e) l ≡ count (λ e. of_group g e && r e) k
   unfolding count
-  grouped g r l k h = ap length (sym (keep_keep r (λ e. of_group g e) l) ∙ ap (λ x. keep r x) h ∙ keep_keep r (λ e. of_group g e) k)
+  grouped g r l k h = ap length (sym (keep_keep r (λ e. of_group g e) l) ∙ ap (λ x. filter r x) h ∙ keep_keep r (λ e. of_group g e) k)
 
   group_stops : (t : Turn) (x : Group) (w : Work X) → round t (release_group t x w) ≡ None
   unfolding release_group enough at_group
@@ -106,7 +106,7 @@ module _ {X : Type 0} where
   module _ (t : Group → Turn) (same : (x : Group) → (t x).guid ≡ x.guid) (g : Guid) (n m : ℕ)
       (fresh-since : (x : Group) (e : Entry X) → young (t x) (Some e) ≡ true → m ≤ e.time) where
     -- the group's own rounds stopped so, and the later groups' leave its entries
-    here : (x : Group) (gs : List Group) (w : Work X) → all (λ y. before x.guid y.guid) gs ≡ true → is_group g x ≡ true
+    here : (x : Group) (gs : List Group) (w : Work X) → list_all (λ y. before x.guid y.guid) gs ≡ true → is_group g x ≡ true
         → empty_at (t x) (release_group (t x) x w) (lowest_ended x.guid (release_group (t x) x w).held) ≡ false
         → 1 ≤ count (λ e. is_at g n e) (release_all t gs (release_group (t x) x w)).1.pending
         → count (λ e. is_above g n e) (release_all t gs (release_group (t x) x w)).1.held ≡ 0
@@ -125,16 +125,16 @@ module _ {X : Type 0} where
     pub stuck : (gs : List Group) (w : Work X) → ascending gs ≡ true → knows_group g gs ≡ true → stops_empty t gs w ≡ false
         → 1 ≤ count (λ e. is_at g n e) (release_all t gs w).1.pending → count (λ e. is_above g n e) (release_all t gs w).1.held ≡ 0
         → Owed g n m w
-    unfolding ascending knows_group any stops_empty release_all
+    unfolding ascending knows_group stops_empty release_all
     stuck [] w a k e p h = not_both true refl (sym k)
     stuck (x ∷ gs) w a k e p h =
         let v : Work X = release_group (t x) x w in
         let q : Entry X → Bool = λ e. is_owed g n m e in
         let l = group_fewer q (λ e. member_with q e) (member_plain q) (member_kept q (owed_blind g n m)) (t x) x w in
         let o : Owed g n m v =
-        (elim (is_group g x) as (λ b. is_group g x ≡ b → b || any (λ y. is_group g y) gs ≡ true → Owed g n m v) [
+        (elim (is_group g x) as (λ b. is_group g x ≡ b → b || list_any (λ y. is_group g y) gs ≡ true → Owed g n m v) [
           | true ↦ λ s r. here x gs w (and_left _ _ a) s (or_left _ _ e) p h
           | false ↦ λ s r.
-              stuck gs v (and_right (all (λ y. before x.guid y.guid) gs) _ a) r (or_right (empty_at (t x) v (lowest_ended x.guid v.held)) _ e) p h
+              stuck gs v (and_right (list_all (λ y. before x.guid y.guid) gs) _ a) r (or_right (empty_at (t x) v (lowest_ended x.guid v.held)) _ e) p h
         ]) refl k in
         omega arith

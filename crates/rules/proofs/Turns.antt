@@ -7,7 +7,7 @@ use Rattle.std.specs.Prelude.{Option, Some, None}
 use mathlib.Core.Logic.{◌⊎◌, inl, inr}
 use lib.IntN.{ℤ}
 use lib.ListN.{length}
-use Rattle.laws.specs.Lists.{keep, all, find}
+use Rattle.laws.specs.Lists.{filter, list_all, find}
 use Rattle.rules.specs.Entry.{What, Entry, of_group}
 use Rattle.rules.specs.State.{Group}
 use Rattle.rules.specs.Sets.{lowest_ended, whole, lowest_stale}
@@ -120,7 +120,7 @@ module _ {X : Type 0} (P : Work X → Type 0) where
 abbrev pub taken : {X : Type 0} → Turn → ℕ → ℕ → Work X → Work X
 taken t n k w = record {
   committed = n;
-  pending = keep (λ e. not (is_head t n e)) w.pending;
+  pending = filter (λ e. not (is_head t n e)) w.pending;
   held = w.held;
   out = w.out;
   lost = w.lost;
@@ -136,8 +136,8 @@ pub record Keeps {X : Type 0} (t : Turn) (P : List (Entry X) → Work X → Type
 
 module _ {X : Type 0} {P : List (Entry X) → Work X → Type 0} where
   module _ {t : Turn} (k : Keeps t P) where
-    commit_all_keeps : (l : List (Entry X)) (w : Work X) → all (λ e. of_group t.guid e) l ≡ true → P l w → P [] (commit_all l w)
-    unfolding commit_all commit_one all of_group
+    commit_all_keeps : (l : List (Entry X)) (w : Work X) → list_all (λ e. of_group t.guid e) l ≡ true → P l w → P [] (commit_all l w)
+    unfolding commit_all commit_one of_group
     commit_all_keeps [] w a h = h
     commit_all_keeps (e ∷ l) w a h =
         let o : of_group t.guid e ≡ true = and_left (of_group t.guid e) _ a in
@@ -158,7 +158,7 @@ module _ {X : Type 0} {P : List (Entry X) → Work X → Type 0} where
 
   -- through a release, if the rounds of each group keep it, and the change to a group
   pub release_all_keeps : (t : Group → Turn) (ok : Group → Bool) → ((g : Group) → ok g ≡ true → Keeps (t g) P) → ((g : Group) (w : Work X) → P [] w → P [] (at_group g w))
-      → (gs : List Group) → all ok gs ≡ true → (w : Work X) → P [] w → P [] (release_all t gs w).1
-  unfolding release_all release_group all
+      → (gs : List Group) → list_all ok gs ≡ true → (w : Work X) → P [] w → P [] (release_all t gs w).1
+  unfolding release_all release_group
   release_all_keeps t ok k c [] a w h = h
   release_all_keeps t ok k c (g ∷ gs) a w h = release_all_keeps t ok k c gs (and_right (ok g) _ a) (release_group (t g) g w) (all_rounds_keep (k g (and_left (ok g) _ a)) (enough w) (at_group g w) (c g w h))

@@ -3,12 +3,12 @@
 use Rattle.std.specs.Prelude.{ℕ, zero, suc, ◌+◌, ◌-◌, ◌^◌, min, ◌≤◌, ◌<◌, ◌≡◌, Bool, true, false, ◌&&◌, ◌||◌, not, cond, List, [], ◌∷◌, ◌++◌, map, ℤ, leb, ltb, eqb, length, take}
 use Rattle.std.specs.Prelude.{Option, Some, None}
 use Rattle.laws.specs.Answer.{Answer, refused, answered}
-use Rattle.laws.specs.Lists.{all, any, count, nth}
+use Rattle.laws.specs.Lists.{list_all, list_any, count, nth}
 use Rattle.guids.specs.Guid.{before}
-use Rattle.rules.specs.Entry.{What, sample, set_end, Entry, is_sample_w, is_sample, of_group, is_member}
+use Rattle.rules.specs.Entry.{What, Sample, End, set_end, Entry, is_sample_w, is_sample, of_group, is_member}
 use Rattle.rules.specs.State.{State, Group, Writer, fresh, is_writer, knows_group, knows_writer, committed_of, stored}
 use Rattle.rules.specs.Marks.{number}
-use Rattle.rules.specs.Offer.{Offer, Fate, is_stored, is_joined, is_late, entry_of, offer}
+use Rattle.rules.specs.Offer.{Offer, Fate, Stored, Joined, Late, entry_of, offer}
 use Rattle.rules.specs.Sets.{lowest_ended}
 use Rattle.rules.specs.Commit.{Turn}
 use Rattle.rules.specs.Release.{Work, Outcome, waits, turn_of, release_group, work_of, release}
@@ -18,17 +18,17 @@ use Rattle.rules.specs.Names.{named, unname, map_state, map_said}
 -- stored and joined are accepted (document 01, Offer)
 abbrev pub accepts : Answer Fate → Bool
 accepts (refused n) = false
-accepts (answered is_stored) = true
-accepts (answered is_joined) = true
-accepts (answered is_late) = false
+accepts (answered Stored) = true
+accepts (answered Joined) = true
+accepts (answered Late) = false
 
 -- stored alone: no sample joins, so the samples accepted are those stored; of ends the bound counts, and the clock is asked of,
 -- the stored ones, and so holds by either sentence of document 01 on what is accepted (Offer; Refusals and rules)
 abbrev pub stores : Answer Fate → Bool
 stores (refused n) = false
-stores (answered is_stored) = true
-stores (answered is_joined) = false
-stores (answered is_late) = false
+stores (answered Stored) = true
+stores (answered Joined) = false
+stores (answered Late) = false
 
 -- a release that is answered
 abbrev pub is_answered : {X : Type 0} → Answer X → Bool
@@ -90,8 +90,8 @@ module _ {X : Type 0} where
 
 -- a sample of name k
 abbrev pub has_name_w : ℕ → What (ℕ × ℕ) → Bool
-has_name_w k (sample x) = eqb k x.0
-has_name_w k (set_end f o) = false
+has_name_w k (Sample x) = eqb k x.0
+has_name_w k (End u) = false
 
 unfoldable pub has_name : ℕ → Entry (ℕ × ℕ) → Bool
 has_name k e = has_name_w k e.what
@@ -136,7 +136,7 @@ module _ {X : Type 0} where
   -- the work stands at an ended set that waits and has no member
   abbrev pub empty_at : Turn → Work X → Option ℤ → Bool
   empty_at t w None = false
-  empty_at t w (Some z) = waits t z w.held && not (any (λ h. is_member t.guid z h) w.held)
+  empty_at t w (Some z) = waits t z w.held && not (list_any (λ h. is_member t.guid z h) w.held)
 
   unfoldable pub stops_empty : (Group → Turn) → List Group → Work X → Bool
   stops_empty t [] w = false
@@ -163,7 +163,7 @@ after None timeout t = true
 after (Some last) timeout t = leb (last + timeout) t
 
 unfoldable pub is_pending : ℕ → State (ℕ × ℕ) → Bool
-is_pending k s = any (λ e. has_name k e) s.pending
+is_pending k s = list_any (λ e. has_name k e) s.pending
 
 -- of the calls, m answered releases are counted, each a timeout or more after the last one counted, the sample pending before and
 -- after it (demand 3; document 01, Pending through a release)
@@ -182,25 +182,25 @@ pub data Counted (k : ℕ) : Option ℕ → State (ℕ × ℕ) → List (Call (�
 -- each group's GUID comes before those of the later ones
 unfoldable pub ascending : List Group → Bool
 ascending [] = true
-ascending (g ∷ l) = all (λ h. before g.guid h.guid) l && ascending l
+ascending (g ∷ l) = list_all (λ h. before g.guid h.guid) l && ascending l
 
 -- no pair of group and writer stands twice
 unfoldable pub distinct : List Writer → Bool
 distinct [] = true
-distinct (w ∷ l) = not (any (λ x. is_writer w.group w.writer x) l) && distinct l
+distinct (w ∷ l) = not (list_any (λ x. is_writer w.group w.writer x) l) && distinct l
 
 -- what every state has that a list of calls reaches
 pub record Reached {X : Type 0} (s : State X) : Type 0 where
   -- groups stand in the order of their GUIDs, each once; each writer stands once, and its group is known
   pub groups_ordered : ascending s.groups ≡ true
   pub writers_once : distinct s.writers ≡ true
-  pub groups_known : all (λ w. knows_group w.group s.groups) s.writers ≡ true
+  pub groups_known : list_all (λ w. knows_group w.group s.groups) s.writers ≡ true
   -- every entry's group and writer are known
-  pub pending_known : all (λ e. knows_writer e.group e.writer s.writers) s.pending ≡ true
-  pub held_known : all (λ e. knows_writer e.group e.writer s.writers) s.held ≡ true
+  pub pending_known : list_all (λ e. knows_writer e.group e.writer s.writers) s.pending ≡ true
+  pub held_known : list_all (λ e. knows_writer e.group e.writer s.writers) s.held ≡ true
   -- pending numbers are above committed, held ones are not
-  pub pending_above : all (λ e. ltb (committed_of e.group s.groups) e.number) s.pending ≡ true
-  pub held_not_above : all (λ e. leb e.number (committed_of e.group s.groups)) s.held ≡ true
+  pub pending_above : list_all (λ e. ltb (committed_of e.group s.groups) e.number) s.pending ≡ true
+  pub held_not_above : list_all (λ e. leb e.number (committed_of e.group s.groups)) s.held ≡ true
   pub most_groups : length s.groups ≤ 8
   pub most_writers : length s.writers ≤ 32
   pub most_entries : stored s ≤ 256
@@ -225,7 +225,7 @@ pub record AtEnd (t : ℕ) (cs : List (Call ℕ)) : Type 0 where
       ≡ count (λ e. is_sample e) (final t cs).state.pending + count (λ e. is_sample e) (final t cs).state.held
       + length (final t cs).out + length (final t cs).lost
   -- the discarded count is exactly the discarded samples until it stops
-  pub discarded_count : (final t cs).state.counts.discarded ≡ min (length (final t cs).lost) (2 ^ 64 - 1)
+  pub discarded_count : (final t cs).state.counts.discarded_samples ≡ min (length (final t cs).lost) (2 ^ 64 - 1)
   -- no accepted sample stays pending through more counted releases than its group had samples and ends stored with numbers up to its own
   pub bound : clock_holds 0 (fresh t) (named 0 cs) ≡ true
       → never_empty (fresh t) (named 0 cs) ≡ true

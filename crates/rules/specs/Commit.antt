@@ -1,17 +1,14 @@
 -- When the lowest pending number of a group is ready.
 use Rattle.std.specs.Prelude.{ℕ, zero, suc, ◌-◌, min, Bool, true, ◌&&◌, ◌||◌, not, cond, List, [], ◌∷◌, leb, eqb, drop}
 use Rattle.std.specs.Prelude.{Option, Some, None}
-use Rattle.laws.specs.Lists.{keep, all, any}
+use Rattle.laws.specs.Lists.{filter, list_all, list_any}
 use Rattle.guids.specs.Guid.{Guid, same_guid}
 use Rattle.rules.specs.Entry.{Entry, of_group}
 use Rattle.rules.specs.State.{Writer, writer_of}
 use Rattle.rules.specs.Marks.{past_of}
 use Rattle.rules.specs.Sets.{Pair}
-
 -- a row of a group with its discovered writers' digest (document 01, Release, 9)
-pub record DigestRow : Type 0 where
-  pub group : Guid
-  pub digest : ℕ
+pub use Rattle.rules.specs.declared.view.DigestRow.{DigestRow}
 
 -- what the release of one group reads and does not change: the group's GUID and announced number, the known writers,
 -- the group's counted rows, the digest rows, the release's time and the timeout
@@ -27,7 +24,7 @@ pub record Turn : Type 0 where
 -- the stand-in for the digest's type (document 01, the digest type): accepted if the group's last four GUID bytes are zero or a row of the group equals it
 unfoldable pub accepted : Guid → List DigestRow → Option ℕ → Bool
 accepted g ds None = true
-accepted g ds (Some d) = all (λ b. eqb b 0) (drop 12 g) || any (λ x. same_guid g x.group && eqb x.digest d) ds
+accepted g ds (Some d) = list_all (λ b. eqb b 0) (drop 12 g) || list_any (λ x. same_guid g x.group && eqb x.digest d) ds
 
 -- a secure digest: accepted if it is 0 (the same)
 unfoldable pub secure_accepted : Option ℕ → Bool
@@ -37,7 +34,7 @@ secure_accepted (Some d) = eqb d 0
 -- every digest present at a known writer of the group is accepted (document 01, Ruled out; DDSI-RTPS 2.5 §8.7.5)
 unfoldable pub digests_accepted : Turn → Bool
 digests_accepted t =
-    all
+    list_all
     (λ w. not (same_guid t.guid w.group) || (accepted t.guid t.digests w.digest && secure_accepted w.secure))
     t.writers
 
@@ -59,7 +56,7 @@ pair_past t w r n = past_of (writer_of t.guid w t.writers) r n
 unfoldable pub ruled_out : Turn → ℕ → ℕ → Bool
 ruled_out t committed next =
     leb next t.announced && digests_accepted t
-    && all_from (suc committed) (next - suc committed) (λ n. all (λ p. pair_past t p.writer p.reader n) t.counted)
+    && all_from (suc committed) (next - suc committed) (λ n. list_all (λ p. pair_past t p.writer p.reader n) t.counted)
 
 abbrev pub least : ℕ → Option ℕ → Option ℕ
 least n None = Some n
@@ -71,7 +68,7 @@ module _ {X : Type 0} where
   is_head t n e = of_group t.guid e && eqb n e.number
 
   unfoldable pub head_of : Turn → ℕ → List (Entry X) → List (Entry X)
-  head_of t n l = keep (λ e. is_head t n e) l
+  head_of t n l = filter (λ e. is_head t n e) l
 
   unfoldable pub lowest_number : List (Entry X) → Option ℕ
   lowest_number [] = None
@@ -79,14 +76,14 @@ module _ {X : Type 0} where
 
   -- the lowest pending number of the group (document 01, release, step 2)
   unfoldable pub next : Turn → List (Entry X) → Option ℕ
-  next t l = lowest_number (keep (λ e. of_group t.guid e) l)
+  next t l = lowest_number (filter (λ e. of_group t.guid e) l)
 
   -- for each entry of the number, every counted reader of its writer has an entry of that number or is past it (document 01, Copies arrived)
   unfoldable pub copies_arrived : Turn → ℕ → List (Entry X) → Bool
   copies_arrived t n l =
-      all
-      (λ e. all
-      (λ p. not (same_guid e.writer p.writer) || any (λ o. eqb p.reader o.reader) l || pair_past t p.writer p.reader n)
+      list_all
+      (λ e. list_all
+      (λ p. not (same_guid e.writer p.writer) || list_any (λ o. eqb p.reader o.reader) l || pair_past t p.writer p.reader n)
       t.counted)
       l
 

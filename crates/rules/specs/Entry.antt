@@ -4,26 +4,19 @@ use Rattle.std.specs.Prelude.{Option, Some, None}
 use Rattle.laws.specs.Whole.{eq_z}
 use Rattle.guids.specs.Guid.{Guid, same_guid}
 use Rattle.laws.specs.Lists.{is_some}
-
 -- a sample, or the end of a coherent set with the writer's first number in the set and the end's own (document 01, Forms by place; DDSI-RTPS 2.5 §8.7.6)
-pub data What (X : Type 0) : Type 0 where
-  sample : X → What X
-  set_end : Option ℤ → Option ℤ → What X
+pub use Rattle.rules.specs.declared.entry.What.{What}
+pub use Rattle.rules.specs.declared.entry.What.TheVariants.{Sample, End}
+pub use Rattle.rules.specs.declared.entry.SetEnd.{SetEnd}
+-- what the history stores of an offer
+pub use Rattle.rules.specs.declared.entry.Entry.{Entry}
 
-pub record Entry (X : Type 0) : Type 0 where
-  pub group : Guid
-  pub writer : Guid
-  pub reader : ℕ
-  pub number : ℕ
-  pub set : Option ℤ
-  pub what : What X
-  pub time : ℕ
-  -- of a kept end whose set is ended: the offer time of the set's first committed end
-  pub ended : Option ℕ
+abbrev pub set_end : {X : Type 0} → Option ℤ → Option ℤ → What X
+set_end f o = End (record { first = f; own = o })
 
 abbrev pub is_sample_w : {X : Type 0} → What X → Bool
-is_sample_w (sample x) = true
-is_sample_w (set_end f o) = false
+is_sample_w (Sample x) = true
+is_sample_w (End u) = false
 
 -- a set number is present, and is z
 abbrev pub is_set : ℤ → Option ℤ → Bool

@@ -9,4 +9,4 @@ pub mod Run
 pub mod Page
 pub mod Names
 pub mod Claim
-pub mod Answers
+pub mod GroupTurn

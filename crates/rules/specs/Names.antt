@@ -1,6 +1,6 @@
 -- Samples named by the place of their offer among the calls.
 use Rattle.std.specs.Prelude.{ℕ, suc, List, [], ◌∷◌, map}
-use Rattle.rules.specs.Entry.{What, sample, set_end, Entry}
+use Rattle.rules.specs.Entry.{What, Sample, End, set_end, Entry}
 use Rattle.rules.specs.State.{State}
 use Rattle.rules.specs.Offer.{Offer}
 use Rattle.rules.specs.Run.{Call, offers, heartbeats, gaps, releases, Said, is_refused, is_offered, is_done, is_released}
@@ -8,8 +8,8 @@ use Rattle.rules.specs.Run.{Call, offers, heartbeats, gaps, releases, Said, is_r
 -- the same with f of what each sample carries
 module _ {X Y : Type 0} (f : X → Y) where
   abbrev pub map_what : What X → What Y
-  map_what (sample x) = sample (f x)
-  map_what (set_end a b) = set_end a b
+  map_what (Sample x) = Sample (f x)
+  map_what (End u) = set_end u.first u.own
 
   unfoldable pub map_entry : Entry X → Entry Y
   map_entry e = record {

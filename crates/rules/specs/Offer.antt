@@ -3,25 +3,17 @@ use Prim.{Unit, tt}
 use Rattle.std.specs.Prelude.{ℕ, Bool, true, false, ◌&&◌, not, cond, List, [], ◌∷◌, ◌++◌, ℤ, ltb, leb, length}
 use Rattle.std.specs.Prelude.{Option, Some, None}
 use Rattle.laws.specs.Answer.{Answer, refused, answered}
-use Rattle.laws.specs.Lists.{any, keep, find, change}
+use Rattle.laws.specs.Lists.{list_any, filter, find, change}
 use Rattle.guids.specs.Guid.{Guid}
 use Rattle.rules.specs.Entry.{What, Entry, is_sample_w, is_sample, same_set, of_group, of_pair}
-use Rattle.rules.specs.State.{State, Group, Writer, Counts, plus, is_group, knows_group, knows_writer, committed_of, stored}
+use Rattle.rules.specs.State.{State, Group, Writer, ReleaseCounts, plus, is_group, knows_group, knows_writer, committed_of, stored}
 use Rattle.rules.specs.Marks.{number, hear_group, tell, saw, gapped, announced, announced_to}
-
-pub record Offer (X : Type 0) : Type 0 where
-  pub group : Guid
-  pub writer : Guid
-  pub reader : ℕ
-  pub number : ℤ
-  pub set : Option ℤ
-  pub digest : ℕ
-  pub what : What X
-  pub time : ℕ
-
+pub use Rattle.rules.specs.declared.call.Offer.{Offer}
+pub use Rattle.rules.specs.declared.call.Heartbeat.{Heartbeat}
+pub use Rattle.rules.specs.declared.call.Gap.{Gap}
 -- what becomes of an offer that is not refused (document 01, Offer)
-pub data Fate : Type 0 where
-  is_stored is_joined is_late : Fate
+pub use Rattle.rules.specs.declared.call.Fate.{Fate}
+pub use Rattle.rules.specs.declared.call.Fate.TheVariants.{Stored, Joined, Late}
 
 -- of the tests in their order, the number of the first that holds (document 01, Operations)
 unfoldable pub refusal : List (ℕ × Bool) → Option ℕ
@@ -29,13 +21,13 @@ refusal [] = None
 refusal (t ∷ l) = cond t.1 (Some t.0) (refusal l)
 
 abbrev pub fate : Bool → Bool → Fate
-fate true j = is_stored
-fate false true = is_joined
-fate false false = is_late
+fate true j = Stored
+fate false true = Joined
+fate false false = Late
 
 -- one more late offer
-unfoldable pub one_late : Counts → Counts
-one_late c = record { skipped = c.skipped; incomplete = c.incomplete; discarded = c.discarded; late = plus c.late 1 }
+unfoldable pub one_late : ReleaseCounts → ReleaseCounts
+one_late c = record { skipped_after_timeout = c.skipped_after_timeout; incomplete_sets = c.incomplete_sets; discarded_samples = c.discarded_samples; late_samples = plus c.late_samples 1 }
 
 module _ {X : Type 0} where
   -- 2: a ninth group; 3: a 33rd pair of group and writer (document 01, Offer)
@@ -83,7 +75,7 @@ module _ {X : Type 0} where
 
   -- an end is kept in place of its pair's earlier one (document 01, release, step 3)
   unfoldable pub keep_end : Option ℕ → Entry X → List (Entry X) → List (Entry X)
-  keep_end m e l = keep (λ h. not (replaced e h)) l ++ (marked m e ∷ [])
+  keep_end m e l = filter (λ h. not (replaced e h)) l ++ (marked m e ∷ [])
 
   abbrev pub mark_of : Option (Entry X) → Option ℕ
   mark_of None = None
@@ -97,13 +89,13 @@ module _ {X : Type 0} where
   unfoldable pub fate_of : State X → Offer X → Fate
   fate_of s o =
       fate (ltb (committed_of o.group s.groups) (number o.number))
-      (not (is_sample_w o.what) && any (λ h. shares (entry_of o) h) s.held)
+      (not (is_sample_w o.what) && list_any (λ h. shares (entry_of o) h) s.held)
 
   -- whether one entry more is stored then (document 01, Offer, 4)
   unfoldable pub adds : Fate → State X → Offer X → Bool
-  adds is_stored s o = true
-  adds is_joined s o = not (any (λ h. replaced (entry_of o) h) s.held)
-  adds is_late s o = false
+  adds Stored s o = true
+  adds Joined s o = not (list_any (λ h. replaced (entry_of o) h) s.held)
+  adds Late s o = false
 
   -- document 01, Offer
   unfoldable pub offer_refusal : State X → Offer X → Option ℕ
@@ -114,9 +106,9 @@ module _ {X : Type 0} where
 
   -- the state after a stored, a joined and a late offer, once its marks are told
   unfoldable pub place : Fate → Entry X → State X → State X
-  place is_stored e s = record { groups = s.groups; writers = s.writers; pending = s.pending ++ (e ∷ []); held = s.held; counts = s.counts; timeout = s.timeout }
-  place is_joined e s = record { groups = s.groups; writers = s.writers; pending = s.pending; held = join e s.held; counts = s.counts; timeout = s.timeout }
-  place is_late e s = record { groups = s.groups; writers = s.writers; pending = s.pending; held = s.held; counts = one_late s.counts; timeout = s.timeout }
+  place Stored e s = record { groups = s.groups; writers = s.writers; pending = s.pending ++ (e ∷ []); held = s.held; counts = s.counts; timeout = s.timeout }
+  place Joined e s = record { groups = s.groups; writers = s.writers; pending = s.pending; held = join e s.held; counts = s.counts; timeout = s.timeout }
+  place Late e s = record { groups = s.groups; writers = s.writers; pending = s.pending; held = s.held; counts = one_late s.counts; timeout = s.timeout }
 
   unfoldable pub heard_offer : Offer X → State X → State X
   heard_offer o s =
@@ -130,21 +122,6 @@ module _ {X : Type 0} where
 
   unfoldable pub offer : State X → Offer X → Answer Fate × State X
   offer s o = offered (offer_refusal s o) s o
-
-pub record Heartbeat : Type 0 where
-  pub group : Guid
-  pub writer : Guid
-  pub first : ℤ
-  pub last : ℤ
-  pub current : ℤ
-  pub digest : Option ℕ
-  pub secure : Option ℕ
-
-pub record Gap : Type 0 where
-  pub group : Guid
-  pub writer : Guid
-  pub reader : ℕ
-  pub number : ℤ
 
 module _ {X : Type 0} where
   abbrev pub done : Option ℕ → State X → State X → Answer (Unit {0}) × State X

@@ -2,7 +2,7 @@
 use Rattle.std.specs.Prelude.{ℕ, zero, suc, ◌+◌, ◌*◌, min, Bool, true, false, ◌&&◌, cond, List, [], ◌∷◌, ◌++◌, map, ltb, eqb, replicate}
 use Rattle.std.specs.Prelude.{Option, Some, None}
 use Rattle.laws.specs.Answer.{Answer, refused, answered}
-use Rattle.laws.specs.Lists.{keep, count, index_of}
+use Rattle.laws.specs.Lists.{filter, count, index_of}
 use Rattle.guids.specs.Guid.{Guid}
 use Rattle.rules.specs.Entry.{Entry, is_sample, of_group}
 use Rattle.rules.specs.State.{State, Group, is_group}
@@ -88,5 +88,5 @@ module _ {X : Type 0} where
   cell s g r = record {
     pending = count (λ e. in_cell g r e) s.pending;
     held = count (λ e. in_cell g r e) s.held;
-    oldest = oldest_of (map (λ e. e.time) (keep (λ e. in_cell g r e) (s.pending ++ s.held)));
+    oldest = oldest_of (map (λ e. e.time) (filter (λ e. in_cell g r e) (s.pending ++ s.held)));
   }

@@ -2,10 +2,10 @@
 use Rattle.std.specs.Prelude.{ℕ, zero, suc, ◌+◌, ◌-◌, ◌*◌, Bool, true, false, ◌&&◌, ◌||◌, not, List, [], ◌∷◌, ◌++◌, ℤ, ltb, eqb, length}
 use Rattle.std.specs.Prelude.{Option, Some, None}
 use Rattle.laws.specs.Answer.{Answer, refused, answered}
-use Rattle.laws.specs.Lists.{keep, any, count, find}
+use Rattle.laws.specs.Lists.{filter, list_any, count, find}
 use Rattle.guids.specs.Guid.{Guid, same_guid}
-use Rattle.rules.specs.Entry.{What, sample, set_end, Entry, is_sample, is_member, marks}
-use Rattle.rules.specs.State.{State, Group, Writer, Counts, plus}
+use Rattle.rules.specs.Entry.{What, Sample, End, set_end, Entry, is_sample, is_member, marks}
+use Rattle.rules.specs.State.{State, Group, Writer, ReleaseCounts, plus}
 use Rattle.rules.specs.Offer.{refusal, keep_end, shares}
 use Rattle.rules.specs.Sets.{Pair, lowest_ended, end_missing, members_of, whole, without, lowest_stale}
 use Rattle.rules.specs.Commit.{DigestRow, Turn, is_head, head_of, next, ready}
@@ -17,15 +17,15 @@ pub record Work (X : Type 0) : Type 0 where
   pub held : List (Entry X)
   pub out : List (Entry X)
   pub lost : List (Entry X)
-  pub counts : Counts
+  pub counts : ReleaseCounts
 
 -- skipped grows by k (document 01, release, step 2)
-unfoldable pub skip : ℕ → Counts → Counts
-skip k c = record { skipped = plus c.skipped k; incomplete = c.incomplete; discarded = c.discarded; late = c.late }
+unfoldable pub skip : ℕ → ReleaseCounts → ReleaseCounts
+skip k c = record { skipped_after_timeout = plus c.skipped_after_timeout k; incomplete_sets = c.incomplete_sets; discarded_samples = c.discarded_samples; late_samples = c.late_samples }
 
 -- one set more is incomplete, and its members are discarded (document 01, Finish)
-unfoldable pub discards : ℕ → Counts → Counts
-discards k c = record { skipped = c.skipped; incomplete = plus c.incomplete 1; discarded = plus c.discarded k; late = c.late }
+unfoldable pub discards : ℕ → ReleaseCounts → ReleaseCounts
+discards k c = record { skipped_after_timeout = c.skipped_after_timeout; incomplete_sets = plus c.incomplete_sets 1; discarded_samples = plus c.discarded_samples k; late_samples = c.late_samples }
 
 -- the time waited since an entry's offer: 0 if the clock went back, 0 with no entry (document 01, release, step 1)
 abbrev pub waited : {X : Type 0} → ℕ → Option (Entry X) → ℕ
@@ -90,10 +90,10 @@ module _ {X : Type 0} where
   -- a member joins its set; an end is kept and marks its set ended; a plain sample is handed out; an end without a set is dropped
   -- (document 01, release, step 3; DDSI-RTPS 2.5 §8.7.6)
   abbrev pub settle : Entry X → Work X → What X → Option ℤ → Work X
-  settle e w (sample x) None = with_out (w.out ++ (e ∷ [])) w
-  settle e w (sample x) (Some z) = with_held (w.held ++ (e ∷ [])) w
-  settle e w (set_end f o) None = w
-  settle e w (set_end f o) (Some z) = with_held (keep_end (mark_or e.time (find (λ m. shares e m && marks m) w.held)) e w.held) w
+  settle e w (Sample x) None = with_out (w.out ++ (e ∷ [])) w
+  settle e w (Sample x) (Some z) = with_held (w.held ++ (e ∷ [])) w
+  settle e w (End u) None = w
+  settle e w (End u) (Some z) = with_held (keep_end (mark_or e.time (find (λ m. shares e m && marks m) w.held)) e w.held) w
 
   unfoldable pub commit_one : Entry X → Work X → Work X
   commit_one e w =
@@ -110,7 +110,7 @@ module _ {X : Type 0} where
       commit_all (head_of t n w.pending)
       (record {
         committed = n;
-        pending = keep (λ e. not (is_head t n e)) w.pending;
+        pending = filter (λ e. not (is_head t n e)) w.pending;
         held = w.held;
         out = w.out;
         lost = w.lost;
@@ -171,7 +171,7 @@ turn_of v now timeout ws g = record {
   guid = g.guid;
   announced = g.announced;
   writers = ws;
-  counted = keep (λ p. same_guid g.guid p.group) v.counted;
+  counted = filter (λ p. same_guid g.guid p.group) v.counted;
   digests = v.digests;
   now = now;
   timeout = timeout;
@@ -183,8 +183,8 @@ committed_at n g = record { guid = g.guid; committed = n; announced = g.announce
 -- 9: over 256 counted rows, over 8 digest rows, a reader above 7, or two rows of one group with unlike digests (document 01, Release)
 unfoldable pub malformed : View → Bool
 malformed v =
-    ltb 256 (length v.counted) || ltb 8 (length v.digests) || any (λ p. ltb 7 p.reader) v.counted
-    || any (λ a. any (λ b. same_guid a.group b.group && not (eqb a.digest b.digest)) v.digests) v.digests
+    ltb 256 (length v.counted) || ltb 8 (length v.digests) || list_any (λ p. ltb 7 p.reader) v.counted
+    || list_any (λ a. list_any (λ b. same_guid a.group b.group && not (eqb a.digest b.digest)) v.digests) v.digests
 
 module _ {X : Type 0} where
   unfoldable pub at_group : Group → Work X → Work X

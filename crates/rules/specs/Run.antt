@@ -2,8 +2,8 @@
 use Prim.{Unit}
 use Rattle.std.specs.Prelude.{ℕ, ◌+◌, ◌*◌, ◌^◌, Bool, ◌&&◌, not, cond, List, [], ◌∷◌, ◌++◌, map, ltb, eqb, length, drop}
 use Rattle.laws.specs.Answer.{Answer, refused, answered}
-use Rattle.laws.specs.Lists.{count, any}
-use Rattle.rules.specs.Entry.{What, sample, set_end, Entry, is_sample}
+use Rattle.laws.specs.Lists.{count, list_any}
+use Rattle.rules.specs.Entry.{What, Sample, End, set_end, Entry, is_sample}
 use Rattle.rules.specs.State.{State}
 use Rattle.rules.specs.Offer.{Offer, Fate, Heartbeat, Gap, offer, heartbeat, gap}
 use Rattle.rules.specs.Release.{View, Outcome, release}
@@ -63,12 +63,12 @@ module _ {X : Type 0} where
 
   -- no entry is pending and no member held (document 01, Subscriber turn)
   unfoldable pub nothing_waits : State X → Bool
-  nothing_waits s = eqb (length s.pending) 0 && not (any (λ e. is_sample e) s.held)
+  nothing_waits s = eqb (length s.pending) 0 && not (list_any (λ e. is_sample e) s.held)
 
 -- what stands in the lent list for a handed-out sample: reader · 2^32 + item
 abbrev pub place_w : ℕ → What ℕ → ℕ
-place_w r (sample i) = r * 2 ^ 32 + i
-place_w r (set_end f o) = 0
+place_w r (Sample i) = r * 2 ^ 32 + i
+place_w r (End u) = 0
 
 unfoldable pub place_of : Entry ℕ → ℕ
 place_of e = place_w e.reader e.what

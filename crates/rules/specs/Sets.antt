@@ -3,21 +3,24 @@ use Rattle.std.specs.Prelude.{ℕ, Bool, true, false, ◌&&◌, not, cond, List,
 use Rattle.std.specs.Prelude.{Option, Some, None}
 use Rattle.std.specs.Int.Signed.{lt_z}
 use Rattle.laws.specs.Whole.{eq_z}
-use Rattle.laws.specs.Lists.{keep, all, any, count, find}
+use Rattle.laws.specs.Lists.{filter, list_all, list_any, count, find}
 use Rattle.guids.specs.Guid.{Guid}
-use Rattle.rules.specs.Entry.{What, sample, set_end, Entry, of_group, in_set, is_member, is_end_of, of_pair, marks, same_set}
+use Rattle.rules.specs.Entry.{What, Sample, End, set_end, Entry, of_group, in_set, is_member, is_end_of, of_pair, marks, same_set}
 use Rattle.rules.specs.Offer.{shares}
-
--- a counted row: a writer of a group and a reader that it is matched with (document 01, Forms)
-pub record Pair : Type 0 where
-  pub group : Guid
-  pub writer : Guid
-  pub reader : ℕ
+-- a counted row (document 01, Forms)
+pub use Rattle.rules.specs.declared.view.Pair.{Pair}
 
 abbrev pub lesser : Option ℤ → Option ℤ → Option ℤ
 lesser None b = b
 lesser (Some a) None = Some a
 lesser (Some a) (Some b) = Some (cond (lt_z b a) b a)
+
+-- first and own number present: members = own − first, over whole numbers; first absent: zero members; own absent: agrees
+-- (document 01, Finish; DDSI-RTPS 2.5 §8.7.6)
+abbrev pub agrees_end : ℕ → Option ℤ → Option ℤ → Bool
+agrees_end m None o = eqb m 0
+agrees_end m (Some f) None = true
+agrees_end m (Some f) (Some o) = eq_z (pos m) (o -ℤ f)
 
 module _ {X : Type 0} where
   -- the lowest set number among entries
@@ -27,25 +30,21 @@ module _ {X : Type 0} where
 
   -- the ended set with the lowest set number (document 01, release, step 1)
   unfoldable pub lowest_ended : Guid → List (Entry X) → Option ℤ
-  lowest_ended g l = lowest_set (keep (λ h. of_group g h && marks h) l)
+  lowest_ended g l = lowest_set (filter (λ h. of_group g h && marks h) l)
 
   -- a counted pair's end is missing (document 01, release, step 1; DDSI-RTPS 2.5 §8.7.6)
   unfoldable pub end_missing : Guid → ℤ → List Pair → List (Entry X) → Bool
-  end_missing g z ps l = any (λ p. not (any (λ h. is_end_of g z p.writer p.reader h) l)) ps
+  end_missing g z ps l = list_any (λ p. not (list_any (λ h. is_end_of g z p.writer p.reader h) l)) ps
 
   unfoldable pub members_of : Guid → ℤ → List (Entry X) → List (Entry X)
-  members_of g z l = keep (λ h. is_member g z h) l
+  members_of g z l = filter (λ h. is_member g z h) l
 
   unfoldable pub members_of_pair : Guid → ℤ → Pair → List (Entry X) → ℕ
   members_of_pair g z p l = count (λ h. is_member g z h && of_pair p.writer p.reader h) l
 
-  -- first and own number present: members = own − first, over whole numbers; first absent: zero members; own absent: agrees
-  -- (document 01, Finish; DDSI-RTPS 2.5 §8.7.6)
   abbrev pub agrees_w : ℕ → What X → Bool
-  agrees_w m (sample x) = true
-  agrees_w m (set_end None o) = eqb m 0
-  agrees_w m (set_end (Some f) None) = true
-  agrees_w m (set_end (Some f) (Some o)) = eq_z (pos m) (o -ℤ f)
+  agrees_w m (Sample x) = true
+  agrees_w m (End u) = agrees_end m u.first u.own
 
   abbrev pub agrees_e : ℕ → Option (Entry X) → Bool
   agrees_e m None = false
@@ -57,14 +56,14 @@ module _ {X : Type 0} where
 
   -- whole: no end is missing and each counted pair's end agrees; with no counted pair it is (document 01, Finish; DDSI-RTPS 2.5 §8.7.6)
   unfoldable pub whole : Guid → ℤ → List Pair → List (Entry X) → Bool
-  whole g z ps l = not (end_missing g z ps l) && all (λ p. agrees g z l p) ps
+  whole g z ps l = not (end_missing g z ps l) && list_all (λ p. agrees g z l p) ps
 
   unfoldable pub without : Guid → ℤ → List (Entry X) → List (Entry X)
-  without g z l = keep (λ h. not (in_set g z h)) l
+  without g z l = filter (λ h. not (in_set g z h)) l
 
   -- h's set is neither ended nor e's (document 01, release, step 3)
   unfoldable pub is_stale : Entry X → List (Entry X) → Entry X → Bool
-  is_stale e l h = of_group e.group h && not (any (λ m. shares h m && marks m) l) && not (same_set e.set h.set)
+  is_stale e l h = of_group e.group h && not (list_any (λ m. shares h m && marks m) l) && not (same_set e.set h.set)
 
   unfoldable pub lowest_stale : Entry X → List (Entry X) → Option ℤ
-  lowest_stale e l = lowest_set (keep (λ h. is_stale e l h) l)
+  lowest_stale e l = lowest_set (filter (λ h. is_stale e l h) l)

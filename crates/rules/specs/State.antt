@@ -1,35 +1,13 @@
 -- The history's state.
 use Rattle.std.specs.Prelude.{ℕ, ◌+◌, ◌-◌, ◌^◌, min, Bool, ◌&&◌, List, [], length, replicate}
 use Rattle.std.specs.Prelude.{Option, Some, None}
-use Rattle.laws.specs.Lists.{any, find}
+use Rattle.laws.specs.Lists.{list_any, find}
 use Rattle.guids.specs.Guid.{Guid, same_guid}
 use Rattle.rules.specs.Entry.{Entry}
-
--- a known group: its highest number committed or passed, and the highest current number that a heartbeat announced (document 01, Rules of the history)
-pub record Group : Type 0 where
-  pub guid : Guid
-  pub committed : ℕ
-  pub announced : ℕ
-
--- a known pair of group and writer: per reader the highest number seen and the highest gap end; the range and the current
--- number of its last heartbeat (0 before any: it then rules nothing out), and the digests that it sent last
-pub record Writer : Type 0 where
-  pub group : Guid
-  pub writer : Guid
-  pub seen : List ℕ
-  pub gaps : List ℕ
-  pub first : ℕ
-  pub last : ℕ
-  pub current : ℕ
-  pub digest : Option ℕ
-  pub secure : Option ℕ
-
--- numbers skipped, sets discarded, their members, late offers (document 01, One call list)
-pub record Counts : Type 0 where
-  pub skipped : ℕ
-  pub incomplete : ℕ
-  pub discarded : ℕ
-  pub late : ℕ
+-- a known group (document 01, Rules of the history), a known pair of group and writer, and the counts (document 01, One call list)
+pub use Rattle.rules.specs.declared.state.Group.{Group}
+pub use Rattle.rules.specs.declared.state.Writer.{Writer}
+pub use Rattle.rules.specs.declared.state.ReleaseCounts.{ReleaseCounts}
 
 pub record State (X : Type 0) : Type 0 where
   -- in the order of their GUIDs
@@ -39,15 +17,15 @@ pub record State (X : Type 0) : Type 0 where
   pub pending : List (Entry X)
   -- members and kept ends of the open sets, in the order in which they were committed or joined
   pub held : List (Entry X)
-  pub counts : Counts
+  pub counts : ReleaseCounts
   pub timeout : ℕ
 
 -- counts stop at 2^64 − 1 (document 01, Operations)
 unfoldable pub plus : ℕ → ℕ → ℕ
 plus a b = min (a + b) (2 ^ 64 - 1)
 
-unfoldable pub no_counts : Counts
-no_counts = record { skipped = 0; incomplete = 0; discarded = 0; late = 0 }
+unfoldable pub no_counts : ReleaseCounts
+no_counts = record { skipped_after_timeout = 0; incomplete_sets = 0; discarded_samples = 0; late_samples = 0 }
 
 -- nothing known or stored, counts 0 (document 01, The third demand)
 unfoldable pub fresh : {X : Type 0} → ℕ → State X
@@ -60,10 +38,10 @@ unfoldable pub is_writer : Guid → Guid → Writer → Bool
 is_writer g w x = same_guid g x.group && same_guid w x.writer
 
 unfoldable pub knows_group : Guid → List Group → Bool
-knows_group g gs = any (λ x. is_group g x) gs
+knows_group g gs = list_any (λ x. is_group g x) gs
 
 unfoldable pub knows_writer : Guid → Guid → List Writer → Bool
-knows_writer g w ws = any (λ x. is_writer g w x) ws
+knows_writer g w ws = list_any (λ x. is_writer g w x) ws
 
 unfoldable pub writer_of : Guid → Guid → List Writer → Option Writer
 writer_of g w ws = find (λ x. is_writer g w x) ws

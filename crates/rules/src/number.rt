@@ -1,50 +1,21 @@
 // Numbers of the group: marks of 0 or less count as 0; distances are over whole numbers.
-ghost use Rattle.std.specs.Prelude.{◌≡◌, ◌-◌, min, max, pos, ◌-ℤ◌};
+ghost use Rattle.std.specs.Prelude.{◌≡◌, ◌-◌, pos, ◌-ℤ◌};
 ghost use Rattle.laws.specs.Whole.{eq_z};
-ghost use Rattle.rules.specs.Answers.{whole_as};
 ghost use Rattle.rules.specs.Marks.{number, past_marks};
 ghost use Rattle.rules.specs.Commit.{lowest_open};
 
-// A whole number by its sign: n, or -(n + 1).
-#[derive(Clone, Copy)]
-pub enum Whole {
-    NotNegative(u64),
-    Negative(u64),
-}
-
-pub fn by_sign(z: i64) -> Whole
-    ensures { whole_as result ≡ z }
-{
-    let negative = z < 0;
-    if negative {
-        return Whole::Negative((!z) as u64);
-    }
-    Whole::NotNegative(z as u64)
-}
-
+#[tactic(auto, unfolding(crate::specs::Marks::number))]
 pub fn clamp(z: i64) -> u64
     ensures { result ≡ number z }
 {
-    match by_sign(z) {
-        Whole::NotNegative(n) => n,
-        Whole::Negative(_) => 0,
-    }
+    u64::try_from(z).unwrap_or(0)
 }
 
 // Whether count is own - first, over whole numbers.
 pub fn is_distance(count: u64, first: i64, own: i64) -> bool
     ensures { result ≡ eq_z (pos count) (own -ℤ first) }
 {
-    match by_sign(own) {
-        Whole::NotNegative(o) => match by_sign(first) {
-            Whole::NotNegative(f) => f <= o && count == o - f,
-            Whole::Negative(f) => count == o + f + 1,
-        },
-        Whole::Negative(o) => match by_sign(first) {
-            Whole::NotNegative(_) => false,
-            Whole::Negative(f) => o <= f && count == f - o,
-        },
-    }
+    i128::from(count) == i128::from(own) - i128::from(first)
 }
 
 // What a pair of writer and reader was told: the highest number seen, the gap end, the last heartbeat's range and current number.
@@ -57,45 +28,40 @@ pub struct Marks {
     pub current: u64,
 }
 
-fn larger(a: u64, b: u64) -> u64
-    ensures { result ≡ max a b }
-{
-    if a < b { b } else { a }
-}
+impl Marks {
+    #[tactic(auto, unfolding(crate::specs::Marks::past_marks))]
+    pub fn is_past(&self, n: u64) -> bool
+        ensures { result ≡ past_marks self.now.seen self.now.gap_end self.now.first self.now.last self.now.current n }
+    {
+        n < self.seen
+            || n <= self.gap_end
+            || (n < self.current && !(self.first..=self.last).contains(&n))
+    }
 
-fn smaller(a: u64, b: u64) -> u64
-    ensures { result ≡ min a b }
-{
-    if a < b { a } else { b }
-}
-
-// The lowest number from `from` on, below `end`, that the pair is not past; `end` if it is past them all.
-// Decided from the ends of what was seen, of the gap and of the heartbeat's range.
-pub fn lowest_open(m: Marks, from: u64, end: u64) -> u64
-    ensures { result ≡ lowest_open (λ n. past_marks m.seen m.gap_end m.first m.last m.current n) from (end - from) }
-{
-    let gap_end = m.gap_end;
-    let first = m.first;
-    let last = m.last;
-    let current = m.current;
-    if end <= from {
-        return from;
+    // The lowest number from `from` on, below `end`, that the pair is not past; `end` if it is past them all.
+    // Decided from the ends of what was seen, of the gap and of the heartbeat's range.
+    pub fn lowest_open(&self, from: u64, end: u64) -> u64
+        ensures { result ≡ lowest_open (λ n. past_marks self.now.seen self.now.gap_end self.now.first self.now.last self.now.current n) from (end - from) }
+    {
+        if end <= from {
+            return from;
+        }
+        if end <= self.gap_end {
+            return end;
+        }
+        let a = from.max(self.seen).max(self.gap_end + 1);
+        if self.current <= a {
+            return a.min(end);
+        }
+        if self.last < self.first {
+            return self.current.min(end);
+        }
+        if a < self.first {
+            return self.first.min(self.current).min(end);
+        }
+        if a <= self.last {
+            return a.min(end);
+        }
+        self.current.min(end)
     }
-    if end <= gap_end {
-        return end;
-    }
-    let a = larger(larger(from, m.seen), gap_end + 1);
-    if current <= a {
-        return smaller(a, end);
-    }
-    if last < first {
-        return smaller(current, end);
-    }
-    if a < first {
-        return smaller(smaller(first, current), end);
-    }
-    if a <= last {
-        return smaller(a, end);
-    }
-    smaller(current, end)
 }

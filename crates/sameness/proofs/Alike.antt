@@ -6,17 +6,20 @@ use mathlib.Core.Bool.{Bool, true, false}
 use mathlib.Core.List.{List, [], ◌∷◌, ◌++◌, map}
 use lib.ListN.{length, drop}
 use Rattle.laws.specs.Answer.{Answer, refused, answered}
-use Rattle.laws.specs.Lists.{all}
-use Rattle.rules.specs.Entry.{What, sample, set_end, Entry, is_sample_w, is_sample}
+use Rattle.laws.specs.Lists.{list_all}
+use Rattle.rules.specs.Entry.{set_end, is_sample_w, is_sample}
+use Rattle.rules.specs.declared.entry.What.{What}
+use Rattle.rules.specs.declared.entry.What.TheVariants.{Sample, End}
+use Rattle.rules.specs.declared.entry.Entry.{Entry}
 use Rattle.rules.specs.State.{State, fresh}
 use Rattle.rules.specs.Offer as O
+use Rattle.rules.specs.declared.call.Fate.{Fate}
 use Rattle.rules.specs.Release.{Outcome, release}
 use Rattle.rules.specs.Run.{Call, offers, heartbeats, gaps, releases, Said, is_refused, is_offered, is_done, is_released, said_offer, said_done, said_release, place_w, nothing_waits, waiting}
 use Rattle.rules.specs.Run as D
 use Rattle.rules.specs.Claim.{outcome_of, takes}
 use Rattle.laws.proofs.Lists.{and_left, and_right, not_both}
 use Rattle.rules.proofs.Fates.{takes_samples}
-use Rattle.store.specs.Store.{state_of}
 use Rattle.history.specs.Chain.{Done, did_offer, did_heartbeat, did_gap, did_release, Chain, call_of, Agrees, AllAgree, CodeDemand3}
 use Rattle.history.specs.Chain as C
 use Rattle.history.proofs.Chained.{code_demand3}
@@ -32,13 +35,13 @@ abbrev pub plain : Said ℕ → Bool
 plain (is_refused n) = true
 plain (is_offered f) = true
 plain is_done = true
-plain (is_released out lost) = all (λ e. is_sample e) out
+plain (is_released out lost) = list_all (λ e. is_sample e) out
 
-plain_release : (a : Answer (Outcome ℕ)) → all (λ e. is_sample e) (outcome_of a).out ≡ true → plain (said_release a) ≡ true
+plain_release : (a : Answer (Outcome ℕ)) → list_all (λ e. is_sample e) (outcome_of a).out ≡ true → plain (said_release a) ≡ true
 plain_release (refused n) h = refl
 plain_release (answered r) h = h
 
-plain_offer : (a : Answer O.Fate) → plain (said_offer a) ≡ true
+plain_offer : (a : Answer Fate) → plain (said_offer a) ≡ true
 plain_offer (refused n) = refl
 plain_offer (answered f) = refl
 
@@ -57,20 +60,20 @@ plain_step s (releases now v l) = plain_release (release s v now (length l)).0 (
 
 item_place : (r : ℕ) (w : What ℕ) → is_sample_w w ≡ true → (l : List (ℕ × ℕ)) → map (λ x. place_of x) (item_of (item_w w) r l) ≡ place_w r w ∷ map (λ x. place_of x) l
 unfolding place_of
-item_place r (sample i) h l = refl
-item_place r (set_end f o) h l = not_both false h refl
+item_place r (Sample i) h l = refl
+item_place r (End u) h l = not_both false h refl
 
 item_length : (r : ℕ) (w : What ℕ) → is_sample_w w ≡ true → (l : List (ℕ × ℕ)) → length (item_of (item_w w) r l) ≡ suc (length l)
-item_length r (sample i) h l = refl
-item_length r (set_end f o) h l = not_both false h refl
+item_length r (Sample i) h l = refl
+item_length r (End u) h l = not_both false h refl
 
-places : (out : List (Entry ℕ)) → all (λ e. is_sample e) out ≡ true → map (λ x. place_of x) (handed out) ≡ map (λ e. D.place_of e) out
-unfolding handed all is_sample D.place_of
+places : (out : List (Entry ℕ)) → list_all (λ e. is_sample e) out ≡ true → map (λ x. place_of x) (handed out) ≡ map (λ e. D.place_of e) out
+unfolding handed is_sample D.place_of
 places [] h = refl
 places (e ∷ out) h = item_place e.reader e.what (and_left (is_sample_w e.what) _ h) (handed out) ∙ ap (λ l. place_w e.reader e.what ∷ l) (places out (and_right (is_sample_w e.what) _ h))
 
-many : (out : List (Entry ℕ)) → all (λ e. is_sample e) out ≡ true → length (handed out) ≡ length out
-unfolding handed all is_sample
+many : (out : List (Entry ℕ)) → list_all (λ e. is_sample e) out ≡ true → length (handed out) ≡ length out
+unfolding handed is_sample
 many [] h = refl
 many (e ∷ out) h = item_length e.reader e.what (and_left (is_sample_w e.what) _ h) (handed out) ∙ ap suc (many out (and_right (is_sample_w e.what) _ h))
 
@@ -102,9 +105,9 @@ all_answer (c ∷ cs) s (d ∷ ds) (C.more x rest) = more (answers_one (D.step s
 all_answer [] s (d ∷ ds) x'' = elim x'' [ ]
 all_answer (c ∷ cs) s [] x3 = elim x3 [ ]
 
-pub code_alike : (turns t : ℕ) (l m : List ℕ) (ds : List Done) → 513 ≤ turns → state_of l ≡ fresh t → Chain l ds m → CodeSameRun turns t ds m
-code_alike turns t l m ds f e c =
-    let d : CodeDemand3 t l ds m c = code_demand3 t l m ds e c in
+pub code_alike : (turns t : ℕ) (s : State ℕ) (ds : List Done) → 513 ≤ turns → Chain (fresh t) ds s → CodeSameRun turns t ds s
+code_alike turns t s ds f c =
+    let d : CodeDemand3 t ds s c = code_demand3 t s ds c in
     let cs : List (Call ℕ) = map (λ d. call_of d) ds in
     let a : SameRun turns t cs = source_alike turns t cs f in
     record {

@@ -1,5 +1,3 @@
-pub mod Gone
-pub mod PairLaws
-pub mod Places
-pub mod Spots
-pub mod Stands
+pub mod Filled
+pub mod Lowest
+pub mod Whole

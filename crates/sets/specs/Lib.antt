@@ -1,3 +1,1 @@
-pub mod Ready
-pub mod Placed
-pub mod Tied
+pub mod Works

@@ -10,11 +10,12 @@ use lib.Dec.{ltb, leb, eqb}
 use lib.Signed.{le_z}
 use lib.ListN.{length}
 use Rattle.laws.specs.Whole.{eq_z}
-use Rattle.laws.specs.Lists.{keep, all, count, find, is_some}
+use Rattle.laws.specs.Lists.{filter, list_all, count, find, is_some}
 use Rattle.guids.specs.Guid.{Guid, same_guid}
 use Rattle.laws.proofs.Lists.{keep_map, any_map, all_map, find_map, count_map, map_o}
 use Rattle.source_model.specs.Map.{Order, guids, numbers, pairs, or_default, get, insert, entry, remove}
-use Rattle.source_model.specs.Source.{SetEnd, Entry, HeartbeatInfo, Progress, OpenSet, no_set, Group, no_group, ReleaseCounts, GroupView, GroupOrder, sum_of, is_that, is_some_and, is_past, sees, heard, gap_to, discarding, agrees_with, skips, as_u64, first_of, held_for, is_empty, with_writer, pushed, with_sets, with_end, Did, did_push, did_join, did_count, join_or, joins, offer_to, group_of, late_if, offer_does, offer_entry, announce, heartbeat, gap, set_known, passable, copies_in, copies_arrived, Loop, with_member, ended, take_in, commit_to, commit, item_of, items, complete, finish_if, finish_set, stale, drop_if, drop_all, commit_each, waited, taken, take_next, take_if, is_ready, at_head, all_ends, finish_or, at_ended, turn, or_return, release_group, release_each, release}
+use Rattle.rules.specs.declared.state.ReleaseCounts.{ReleaseCounts}
+use Rattle.source_model.specs.Source.{SetEnd, Entry, HeartbeatInfo, Progress, OpenSet, no_set, Group, no_group, GroupView, GroupOrder, sum_of, is_that, is_some_and, is_past, sees, heard, gap_to, discarding, agrees_with, skips, as_u64, first_of, held_for, is_empty, with_writer, pushed, with_sets, with_end, Did, did_push, did_join, did_count, join_or, joins, offer_to, group_of, late_if, offer_does, offer_entry, announce, heartbeat, gap, set_known, passable, copies_in, copies_arrived, Loop, with_member, ended, take_in, commit_to, commit, item_of, items, complete, finish_if, finish_set, stale, drop_if, drop_all, commit_each, waited, taken, take_next, take_if, is_ready, at_head, all_ends, finish_or, at_ended, turn, or_return, release_group, release_each, release}
 use Rattle.source_model.specs.Calls.{group_at, ninth, pair33, stored_in, stored, samples_in, samples, fate_of, new_end, adds}
 use Rattle.source_model.specs.Claim.{each_returns}
 use Rattle.source_model.proofs.Sets.{map_append}
@@ -166,7 +167,7 @@ module _ {I : Type 0} where
   unfolding stale bare bare_set over
   stale_bare e m =
       let p : ℤ × OpenSet I → Bool = λ x. not x.1.end_committed && not (is_that x.0 e.info.coherent_set_gsn) in
-      ap (λ l. map (λ x. x.0) l) (keep_map p (λ x. (x.0, bare_set x.1)) m) ∙ keys_over (λ s. bare_set s) (keep p m)
+      ap (λ l. map (λ x. x.0) l) (keep_map p (λ x. (x.0, bare_set x.1)) m) ∙ keys_over (λ s. bare_set s) (filter p m)
 
   stale_loop : (e : Entry I) (l : Loop I) → stale (bare e) (bare_loop l).group.sets ≡ stale e l.group.sets
   unfolding bare_loop bare_group
@@ -602,10 +603,10 @@ module _ {I : Type 0} where
   unfolding held_for
   held_bare o r = sum_groups (λ g. sum_of (λ v. count (λ e. is_some e.item && eqb r e.reader) v.1) g.pending + sum_of (λ s. count (λ e. eqb r e.reader) s.1.members) g.sets) (λ g. held_group r g) o
 
-  none_in : (g : Group I) → eqb (length (bare_group g).pending) 0 && all (λ s. eqb (length s.1.members) 0) (bare_group g).sets ≡ eqb (length g.pending) 0 && all (λ s. eqb (length s.1.members) 0) g.sets
+  none_in : (g : Group I) → eqb (length (bare_group g).pending) 0 && list_all (λ s. eqb (length s.1.members) 0) (bare_group g).sets ≡ eqb (length g.pending) 0 && list_all (λ s. eqb (length s.1.members) 0) g.sets
   unfolding bare_group over bare_set
   none_in g =
-      ap (λ n. eqb n 0 && all (λ s. eqb (length s.1.members) 0) (over (λ s. bare_set s) g.sets)) (over_length (λ v. bares v) g.pending)
+      ap (λ n. eqb n 0 && list_all (λ s. eqb (length s.1.members) 0) (over (λ s. bare_set s) g.sets)) (over_length (λ v. bares v) g.pending)
       ∙ ap (λ b. eqb (length g.pending) 0 && b) (all_map (λ s. eqb (length s.1.members) 0) (λ x. (x.0, bare_set x.1)) g.sets ∙ all_ext _ _ (λ x. ap (λ n. eqb n 0) (bares_length x.1.members)) g.sets)
 
   pub empty_bare : (o : GroupOrder I) → is_empty (bare_order o) ≡ is_empty o

@@ -1,4 +1,4 @@
--- Counts over the store are alike on both sides: known groups and writers, stored entries and samples, waiting figures.
+-- ReleaseCounts over the store are alike on both sides: known groups and writers, stored entries and samples, waiting figures.
 use Prim.Native.Nat.{ℕ, ◌+◌}
 use mathlib.Core.Path.{◌≡◌, refl, sym, ap, ◌∙◌}
 use mathlib.Core.Bool.{Bool, true, false, ◌&&◌, ◌||◌, not, cond}
@@ -10,10 +10,14 @@ use lib.Dec.{leb, eqb}
 use lib.ListN.{length}
 use borrow.Author.Tests.{eq-eqb}
 use Rattle.laws.specs.Whole.{eq_z}
-use Rattle.laws.specs.Lists.{keep, all, any, count, is_some}
+use Rattle.laws.specs.Lists.{filter, list_all, list_any, count, is_some}
 use Rattle.guids.specs.Guid.{Guid, same_guid}
-use Rattle.rules.specs.Entry.{What, sample, set_end, Entry, is_sample, is_sample_w, is_set, of_group, of_pair, in_set}
-use Rattle.rules.specs.State.{State, Writer, is_group, is_writer, knows_group, knows_writer}
+use Rattle.rules.specs.Entry.{set_end, is_sample, is_sample_w, is_set, of_group, of_pair, in_set}
+use Rattle.rules.specs.declared.entry.What.{What}
+use Rattle.rules.specs.declared.entry.What.TheVariants.{Sample, End}
+use Rattle.rules.specs.declared.entry.Entry.{Entry}
+use Rattle.rules.specs.State.{State, is_group, is_writer, knows_group, knows_writer}
+use Rattle.rules.specs.declared.state.Writer.{Writer}
 use Rattle.laws.proofs.Lists.{not_both, and_true, and_left, and_right, keep_keep, keep_same, count_map, count_one, count_nil, count_cons, count_all, all_yes, all_kept, find_any, none_some, all_keep, length_split}
 use Rattle.guids.proofs.Guids.{same_eq, same_refl}
 use Rattle.rules.proofs.Minima.{eq_z_refl, eq_z_eq}
@@ -44,7 +48,7 @@ unfolding sum_of
 sum_one [] = refl
 sum_one (a ∷ l) = omega (arith, sum_one l)
 
-count_keep_in : {A : Type 0} (p q : A → Bool) (l : List A) → count q (keep p l) ≡ count (λ a. p a && q a) l
+count_keep_in : {A : Type 0} (p q : A → Bool) (l : List A) → count q (filter p l) ≡ count (λ a. p a && q a) l
 unfolding count
 count_keep_in p q l = ap length (keep_keep q p l)
 
@@ -52,8 +56,7 @@ pub count_ext : {A : Type 0} (p q : A → Bool) → ((a : A) → p a ≡ q a) �
 unfolding count
 count_ext p q h l = ap length (keep_same p q h l)
 
-count_under : {A : Type 0} (p q : A → Bool) (l : List A) → all p l ≡ true → count (λ a. p a && q a) l ≡ count q l
-unfolding all
+count_under : {A : Type 0} (p q : A → Bool) (l : List A) → list_all p l ≡ true → count (λ a. p a && q a) l ≡ count q l
 count_under p q [] e = count_nil (λ a. p a && q a) ∙ sym (count_nil q)
 count_under p q (a ∷ l) e =
     let h : p a ≡ true = and_left (p a) _ e in
@@ -68,13 +71,13 @@ and_true_r false = refl
 
 module _ {X : Type 0} where
   pub known_group : (g : Guid) (m : List (Guid × S.Group X)) → knows_group g (map (λ x. flat x) m) ≡ is_some (get guids g m)
-  unfolding knows_group is_group flat any get is_some guids
+  unfolding knows_group is_group flat get is_some guids
   known_group g [] = refl
   known_group g (x ∷ m) = ap (λ b. same_guid g x.0 || b) (known_group g m) ∙ (elim (same_guid g x.0) as (λ t. t || is_some (get guids g m) ≡ is_some (cond t (Some x.1) (get guids g m))) [ true ↦ refl | false ↦ refl ])
 
   -- a count over the entries or writers of each group
   pub over_groups : {B : Type 0} (m : List (Guid × S.Group X)) (of : B → Guid) (q : B → Bool) (len : S.Group X → ℕ) (l : List B) → ascends guids m ≡ true → len no_group ≡ 0
-      → ((g : Guid) → count q (keep (λ b. same_guid g (of b)) l) ≡ len (or_default no_group (get guids g m)))
+      → ((g : Guid) → count q (filter (λ b. same_guid g (of b)) l) ≡ len (or_default no_group (get guids g m)))
       → count q l ≡ sum_of (λ x. len x.1) m
   unfolding guids
   over_groups m of q len l a z h =
@@ -92,23 +95,22 @@ writer_case (Some p) (w ∷ (_ ∷ _)) x8 = elim x8 [ ]
 pub known_writer : (g w : Guid) (m : List (Guid × Progress)) (ws : List Writer) → WritersLike g m ws → knows_writer g w ws ≡ is_some (get guids w m)
 unfolding knows_writer
 known_writer g w m ws k =
-    sym (find_any (λ x. is_writer g w x) ws) ∙ ap is_some (find_keep_w (λ x. is_writer g w x) ws) ∙ sym (writer_case (get guids w m) (keep (λ x. is_writer g w x) ws) (k.at w))
+    sym (find_any (λ x. is_writer g w x) ws) ∙ ap is_some (find_keep_w (λ x. is_writer g w x) ws) ∙ sym (writer_case (get guids w m) (filter (λ x. is_writer g w x) ws) (k.at w))
 
-one_writer : (g w : Guid) (u : Option Progress) (l : List Writer) → WriterLike u l → all (λ x. is_writer g w x) l ≡ true → count (λ x. same_guid g x.group) l ≡ len_o (λ p. 1) u
-unfolding all
+one_writer : (g w : Guid) (u : Option Progress) (l : List Writer) → WriterLike u l → list_all (λ x. is_writer g w x) l ≡ true → count (λ x. same_guid g x.group) l ≡ len_o (λ p. 1) u
 one_writer g w None [] unknown e = count_nil (λ x. same_guid g x.group)
 one_writer g w (Some p) (x ∷ []) (known k) e = count_one (λ x. same_guid g x.group) x ∙ ap (λ b. cond b 1 0) (group_of g w x (and_left (is_writer g w x) _ e))
 one_writer g w None (x ∷ _) x6 e = elim x6 [ ]
 one_writer g w (Some p) [] x4 e = elim x4 [ ]
 one_writer g w (Some p) (x ∷ (_ ∷ _)) x10 e = elim x10 [ ]
 
-group_writers : (g : Guid) (m : List (Guid × Progress)) (ws : List Writer) → WritersLike g m ws → count (λ x. true) (keep (λ x. same_guid g x.group) ws) ≡ length m
+group_writers : (g : Guid) (m : List (Guid × Progress)) (ws : List Writer) → WritersLike g m ws → count (λ x. true) (filter (λ x. same_guid g x.group) ws) ≡ length m
 unfolding guids
 group_writers g m ws k =
     count_keep_in (λ x. same_guid g x.group) (λ x. true) ws
     ∙ count_ext (λ x. same_guid g x.group && true) (λ x. same_guid g x.group) (λ x. elim (same_guid g x.group) as (λ b. b && true ≡ b) [ true ↦ refl | false ↦ refl ]) ws
     ∙ count_over guids_lawful (λ w x. is_writer g w x) (λ x. x.writer) (λ x. same_guid g x.group) (λ p. 1) (λ x e. own_of g x e) (λ a b x c d. once_writer g a b x c d) m ws k.ascend
-    (λ w. one_writer g w (get guids w m) (keep (λ x. is_writer g w x) ws) (k.at w) (all_kept (λ x. is_writer g w x) ws))
+    (λ w. one_writer g w (get guids w m) (filter (λ x. is_writer g w x) ws) (k.at w) (all_kept (λ x. is_writer g w x) ws))
     ∙ sum_one m
 
 module _ {X : Type 0} (o : GroupOrder X) (s : State X) (l : Like o s) where
@@ -138,18 +140,18 @@ vec_count q qm h [] = sym (count_nil q)
 vec_count q qm h (e ∷ l) = count_map qm (λ e. as_entry e) (e ∷ l) ∙ count_ext (λ e. qm (as_entry e)) q h (e ∷ l)
 
 module _ {X : Type 0} where
-  at_of : (g : Guid) (n : ℤ) (l : List (Entry X)) → keep (λ e. eq_z n (pos e.number)) (keep (λ e. same_guid g e.group) l) ≡ keep (λ e. is_at g n e) l
+  at_of : (g : Guid) (n : ℤ) (l : List (Entry X)) → filter (λ e. eq_z n (pos e.number)) (filter (λ e. same_guid g e.group) l) ≡ filter (λ e. is_at g n e) l
   unfolding is_at of_group
   at_of g n l = keep_keep (λ e. eq_z n (pos e.number)) (λ e. same_guid g e.group) l
 
   group_pending : (q : Entry X → Bool) (qm : S.Entry X → Bool) → ((e : Entry X) → qm (as_entry e) ≡ q e) → (g : Guid) (m : List (ℤ × List (S.Entry X))) (l : List (Entry X)) → PendingLike g m l
-      → count q (keep (λ e. same_guid g e.group) l) ≡ sum_of (λ v. count qm v.1) m
+      → count q (filter (λ e. same_guid g e.group) l) ≡ sum_of (λ v. count qm v.1) m
   unfolding numbers
   group_pending q qm h g m l k =
-      count_over numbers_lawful (λ n e. eq_z n (pos e.number)) (λ e. pos e.number) q (λ v. count qm v) (λ e d. eq_z_refl (pos e.number)) (λ a b e c d. ap (λ y. eq_z a y) (eq_z_eq b (pos e.number) d) ∙ c) m (keep (λ e. same_guid g e.group) l) k.ascend
-      (λ n. ap (λ r. count q r) (at_of g n l) ∙ sym (vec_count q qm h (keep (λ e. is_at g n e) l)) ∙ ap (λ u. len_o (λ v. count qm v) u) (sym (k.at n)))
+      count_over numbers_lawful (λ n e. eq_z n (pos e.number)) (λ e. pos e.number) q (λ v. count qm v) (λ e d. eq_z_refl (pos e.number)) (λ a b e c d. ap (λ y. eq_z a y) (eq_z_eq b (pos e.number) d) ∙ c) m (filter (λ e. same_guid g e.group) l) k.ascend
+      (λ n. ap (λ r. count q r) (at_of g n l) ∙ sym (vec_count q qm h (filter (λ e. is_at g n e) l)) ∙ ap (λ u. len_o (λ v. count qm v) u) (sym (k.at n)))
 
-  in_of : (g : Guid) (z : ℤ) (l : List (Entry X)) → keep (λ h. is_set z h.set) (keep (λ h. same_guid g h.group) l) ≡ keep (λ h. in_set g z h) l
+  in_of : (g : Guid) (z : ℤ) (l : List (Entry X)) → filter (λ h. is_set z h.set) (filter (λ h. same_guid g h.group) l) ≡ filter (λ h. in_set g z h) l
   unfolding in_set of_group
   in_of g z l = keep_keep (λ h. is_set z h.set) (λ h. same_guid g h.group) l
 
@@ -162,13 +164,13 @@ module _ {X : Type 0} where
 
   -- a figure of the held entries, set by set
   group_held : (q : Entry X → Bool) (len : OpenSet X → ℕ) → ((t : OpenSet X) (l : List (Entry X)) → OpenLike t l → count q l ≡ len t)
-      → (g : Guid) (m : List (ℤ × OpenSet X)) (l : List (Entry X)) → all (λ h. is_some h.set) l ≡ true → SetsLike g m l
-      → count q (keep (λ h. same_guid g h.group) l) ≡ sum_of (λ x. len x.1) m
+      → (g : Guid) (m : List (ℤ × OpenSet X)) (l : List (Entry X)) → list_all (λ h. is_some h.set) l ≡ true → SetsLike g m l
+      → count q (filter (λ h. same_guid g h.group) l) ≡ sum_of (λ x. len x.1) m
   unfolding numbers
   group_held q len f g m l a k =
-      sym (count_under (λ h. is_some h.set) q (keep (λ h. same_guid g h.group) l) (all_keep (λ h. is_some h.set) (λ h. same_guid g h.group) l a))
-      ∙ count_over numbers_lawful (λ z h. is_set z h.set) (λ h. or_default (pos 0) h.set) (λ h. is_some h.set && q h) len (λ h e. set_own h (q h) e) (λ i j h c d. set_once i j h c d) m (keep (λ h. same_guid g h.group) l) k.ascend
-      (λ z. ap (λ r. count (λ h. is_some h.set && q h) r) (in_of g z l) ∙ count_under (λ h. is_some h.set) q (keep (λ h. in_set g z h) l) (all_keep (λ h. is_some h.set) (λ h. in_set g z h) l a) ∙ held_case (get numbers z m) (keep (λ h. in_set g z h) l) (k.at z))
+      sym (count_under (λ h. is_some h.set) q (filter (λ h. same_guid g h.group) l) (all_keep (λ h. is_some h.set) (λ h. same_guid g h.group) l a))
+      ∙ count_over numbers_lawful (λ z h. is_set z h.set) (λ h. or_default (pos 0) h.set) (λ h. is_some h.set && q h) len (λ h e. set_own h (q h) e) (λ i j h c d. set_once i j h c d) m (filter (λ h. same_guid g h.group) l) k.ascend
+      (λ z. ap (λ r. count (λ h. is_some h.set && q h) r) (in_of g z l) ∙ count_under (λ h. is_some h.set) q (filter (λ h. in_set g z h) l) (all_keep (λ h. is_some h.set) (λ h. in_set g z h) l a) ∙ held_case (get numbers z m) (filter (λ h. in_set g z h) l) (k.at z))
     where
       held_case : (u : Option (OpenSet X)) (r : List (Entry X)) → SetLike u r → count q r ≡ len_o len u
       held_case None [] closed = count_nil q
@@ -178,11 +180,11 @@ module _ {X : Type 0} where
   member_count : (q : Entry X → Bool) (qm : S.Entry X → Bool) → ((e : Entry X) → qm (as_entry e) ≡ q e) → (t : OpenSet X) (l : List (Entry X)) → OpenLike t l → count (λ h. is_sample h && q h) l ≡ count qm t.members
   member_count q qm h t l k =
       sym (count_keep_in (λ h. is_sample h) q l)
-      ∙ sym (ap (λ r. count qm r) k.members ∙ count_map qm (λ e. as_entry e) (keep (λ h. is_sample h) l) ∙ count_ext (λ e. qm (as_entry e)) q h (keep (λ h. is_sample h) l))
+      ∙ sym (ap (λ r. count qm r) k.members ∙ count_map qm (λ e. as_entry e) (filter (λ h. is_sample h) l) ∙ count_ext (λ e. qm (as_entry e)) q h (filter (λ h. is_sample h) l))
 
   end_not_sample : (w : What X) (x : SetEnd) → end_w w ≡ Some x → not (is_sample_w w) ≡ true
-  end_not_sample (sample i) x d = none_some x d
-  end_not_sample (set_end f p) x d = refl
+  end_not_sample (Sample i) x d = none_some x d
+  end_not_sample (End u) x d = refl
 
   end_one : (u : Option SetEnd) (l : List (Entry X)) → EndLike u l → count (λ h. not (is_sample h)) l ≡ len_o (λ x. 1) u
   unfolding is_sample
@@ -199,7 +201,7 @@ module _ {X : Type 0} where
   end_count : (t : OpenSet X) (l : List (Entry X)) → OpenLike t l → count (λ h. not (is_sample h)) l ≡ length t.ends
   end_count t l k =
       count_over pairs_lawful (λ p h. is_pair_end p h) (λ h. (h.writer, h.reader)) (λ h. not (is_sample h)) (λ x. 1) (λ h e. pair_own h e) (λ p r h c d. pair_of p r h c d) t.ends l k.ends_ascend
-      (λ p. end_one (get pairs p t.ends) (keep (λ h. is_pair_end p h) l) (k.ends p))
+      (λ p. end_one (get pairs p t.ends) (filter (λ h. is_pair_end p h) l) (k.ends p))
       ∙ sum_one t.ends
 
 module _ {X : Type 0} (o : GroupOrder X) (s : State X) (l : Like o s) where
@@ -242,7 +244,7 @@ module _ {X : Type 0} (o : GroupOrder X) (s : State X) (l : Like o s) where
 
   item_sample : (e : Entry X) → is_some (as_entry e).item ≡ is_sample e
   unfolding as_entry is_sample is_some
-  item_sample e = elim e.what as (λ w. is_some (item_w w) ≡ is_sample_w w) [ sample x ↦ refl | set_end f p ↦ refl ]
+  item_sample e = elim e.what as (λ w. is_some (item_w w) ≡ is_sample_w w) [ Sample x ↦ refl | End u ↦ refl ]
 
   as_reader : (e : Entry X) → (as_entry e).reader ≡ e.reader
   unfolding as_entry

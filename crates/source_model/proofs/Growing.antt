@@ -11,43 +11,45 @@ use lib.ListN.{length}
 use borrow.Author.Tests.{ltb-true, lt-ltb}
 use Rattle.laws.specs.Lists.{find}
 use Rattle.guids.specs.Guid.{Guid}
-use Rattle.rules.specs.Offer.{Offer, refusal}
+use Rattle.rules.specs.Offer.{refusal}
+use Rattle.rules.specs.declared.call.Offer.{Offer}
 use Rattle.rules.specs.Release.{View, malformed}
 use Rattle.rules.specs.Run.{Call, offers, heartbeats, gaps, releases}
 use Rattle.laws.proofs.Lists.{and_true, and_left, and_right}
 use Rattle.source_model.specs.Map.{numbers, or_default, get, remove}
-use Rattle.source_model.specs.Source.{Entry, OpenSet, no_set, Group, GroupView, GroupOrder, ReleaseCounts, first_of, late, discarding, skips, Did, did_push, did_join, did_count, late_if, offer_does, offer_entry, offer, heartbeat, gap, with_sets, Loop, commit_to, commit, complete, finish_if, finish_set, stale, drop_if, drop_all, commit_each, waited, as_u64, taken, take_next, take_if, is_ready, at_head, all_ends, finish_or, at_ended, turn, or_return, release_group, release_each, release}
+use Rattle.rules.specs.declared.state.ReleaseCounts.{ReleaseCounts}
+use Rattle.source_model.specs.Source.{Entry, OpenSet, no_set, Group, GroupView, GroupOrder, first_of, late, discarding, skips, Did, did_push, did_join, did_count, late_if, offer_does, offer_entry, offer, heartbeat, gap, with_sets, Loop, commit_to, commit, complete, finish_if, finish_set, stale, drop_if, drop_all, commit_each, waited, as_u64, taken, take_next, take_if, is_ready, at_head, all_ends, finish_or, at_ended, turn, or_return, release_group, release_each, release}
 use Rattle.source_model.specs.Calls.{end_w, item_w, group_info, info_of, view_of, ninth, pair33, samples, offer_refusal, offer_unless, done_unless, release_unless, step, run}
 use Rattle.source_model.specs.Claim.{below}
 
 pub record Grows (c d : ReleaseCounts) : Type 0 where
-  pub skipped : c.skipped_after_timeout ≤ d.skipped_after_timeout
-  pub incomplete : c.incomplete_sets ≤ d.incomplete_sets
-  pub discarded : c.discarded_samples ≤ d.discarded_samples
+  pub skipped_after_timeout : c.skipped_after_timeout ≤ d.skipped_after_timeout
+  pub incomplete_sets : c.incomplete_sets ≤ d.incomplete_sets
+  pub discarded_samples : c.discarded_samples ≤ d.discarded_samples
   pub lates : c.late_samples ≤ d.late_samples
 
 same : (c : ReleaseCounts) → Grows c c
-same c = record { skipped = omega arith; incomplete = omega arith; discarded = omega arith; lates = omega arith }
+same c = record { skipped_after_timeout = omega arith; incomplete_sets = omega arith; discarded_samples = omega arith; lates = omega arith }
 
 then : (c d e : ReleaseCounts) → Grows c d → Grows d e → Grows c e
 then c d e g h = record {
-  skipped = omega (arith, g.skipped, h.skipped);
-  incomplete = omega (arith, g.incomplete, h.incomplete);
-  discarded = omega (arith, g.discarded, h.discarded);
+  skipped_after_timeout = omega (arith, g.skipped_after_timeout, h.skipped_after_timeout);
+  incomplete_sets = omega (arith, g.incomplete_sets, h.incomplete_sets);
+  discarded_samples = omega (arith, g.discarded_samples, h.discarded_samples);
   lates = omega (arith, g.lates, h.lates);
 }
 
 grows_late : (c : ReleaseCounts) → Grows c (late c)
 unfolding late
-grows_late c = record { skipped = omega arith; incomplete = omega arith; discarded = omega arith; lates = omega arith }
+grows_late c = record { skipped_after_timeout = omega arith; incomplete_sets = omega arith; discarded_samples = omega arith; lates = omega arith }
 
 grows_discard : (k : ℕ) (c : ReleaseCounts) → Grows c (discarding k c)
 unfolding discarding
-grows_discard k c = record { skipped = omega arith; incomplete = omega arith; discarded = omega arith; lates = omega arith }
+grows_discard k c = record { skipped_after_timeout = omega arith; incomplete_sets = omega arith; discarded_samples = omega arith; lates = omega arith }
 
 grows_skip : (k : ℕ) (c : ReleaseCounts) → Grows c (skips k c)
 unfolding skips
-grows_skip k c = record { skipped = omega arith; incomplete = omega arith; discarded = omega arith; lates = omega arith }
+grows_skip k c = record { skipped_after_timeout = omega arith; incomplete_sets = omega arith; discarded_samples = omega arith; lates = omega arith }
 
 module _ {I : Type 0} where
   drop_grows : (z : ℤ) (l : Loop I) (u : Option (OpenSet I)) → Grows l.counts (drop_if z l u).counts
@@ -177,9 +179,9 @@ grown_below c d g h =
     and_true (ltb c.skipped_after_timeout (2 ^ 64) && ltb c.incomplete_sets (2 ^ 64) && ltb c.discarded_samples (2 ^ 64)) _
     (and_true (ltb c.skipped_after_timeout (2 ^ 64) && ltb c.incomplete_sets (2 ^ 64)) _
     (and_true (ltb c.skipped_after_timeout (2 ^ 64)) _
-    (less c.skipped_after_timeout d.skipped_after_timeout g.skipped (and_left (ltb d.skipped_after_timeout (2 ^ 64)) _ ab))
-    (less c.incomplete_sets d.incomplete_sets g.incomplete (and_right (ltb d.skipped_after_timeout (2 ^ 64)) _ ab)))
-    (less c.discarded_samples d.discarded_samples g.discarded (and_right (ltb d.skipped_after_timeout (2 ^ 64) && ltb d.incomplete_sets (2 ^ 64)) _ abc)))
+    (less c.skipped_after_timeout d.skipped_after_timeout g.skipped_after_timeout (and_left (ltb d.skipped_after_timeout (2 ^ 64)) _ ab))
+    (less c.incomplete_sets d.incomplete_sets g.incomplete_sets (and_right (ltb d.skipped_after_timeout (2 ^ 64)) _ ab)))
+    (less c.discarded_samples d.discarded_samples g.discarded_samples (and_right (ltb d.skipped_after_timeout (2 ^ 64) && ltb d.incomplete_sets (2 ^ 64)) _ abc)))
     (less c.late_samples d.late_samples g.lates (and_right (ltb d.skipped_after_timeout (2 ^ 64) && ltb d.incomplete_sets (2 ^ 64) && ltb d.discarded_samples (2 ^ 64)) _ h))
 
 pub below_before : {X : Type 0} (turns : ℕ) (cs ds : List (Call X)) (o : GroupOrder X) → below (run turns o (cs ++ ds)).counts ≡ true → below (run turns o cs).counts ≡ true

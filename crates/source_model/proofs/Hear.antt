@@ -12,11 +12,13 @@ use lib.ListN.{length, get_or, replicate, length-set}
 use lib.Seq.{get_or-set_same, get_or-set_other}
 use mathlib.Core.List.{append-nil}
 use borrow.Author.Tests.{le-ltb, eqb-true, eqb-false, lt-leb}
-use Rattle.laws.specs.Lists.{keep, all, any, change}
+use Rattle.laws.specs.Lists.{filter, list_all, list_any, change}
 use Rattle.guids.specs.Guid.{Guid, same_guid, before}
-use Rattle.rules.specs.State.{Group, Writer, is_group, is_writer, knows_group, knows_writer, new_group, new_writer}
+use Rattle.rules.specs.State.{is_group, is_writer, knows_group, knows_writer, new_group, new_writer}
+use Rattle.rules.specs.declared.state.Group.{Group}
+use Rattle.rules.specs.declared.state.Writer.{Writer}
 use Rattle.rules.specs.Marks.{number, past, insert_group, hear_group, hear_writer, raise, saw, gapped, or_keep, announced, tell}
-use Rattle.rules.specs.Offer.{Heartbeat}
+use Rattle.rules.specs.declared.call.Heartbeat.{Heartbeat}
 use Rattle.laws.proofs.Lists.{not_both, and_true, and_left, and_right, keep_append, keep_none, kept_none, all_imp, and_never}
 use Rattle.guids.proofs.Guids.{same_eq, same_refl}
 use Rattle.rules.proofs.Clamp as C
@@ -166,20 +168,20 @@ change_head f [] = []
 change_head f (x ∷ l) = f x ∷ l
 
 module _ {A : Type 0} (p : A → Bool) (f : A → A) where
-  pub keep_change_own : ((a : A) → p (f a) ≡ p a) → (l : List A) → keep p (change p f l) ≡ change_head f (keep p l)
-  unfolding keep change
+  pub keep_change_own : ((a : A) → p (f a) ≡ p a) → (l : List A) → filter p (change p f l) ≡ change_head f (filter p l)
+  unfolding change
   keep_change_own h [] = refl
   keep_change_own h (a ∷ l) =
-      (elim (p a) as (λ t. p a ≡ t → keep p (cond t (f a ∷ l) (a ∷ change p f l)) ≡ change_head f (cond t (a ∷ keep p l) (keep p l))) [
+      (elim (p a) as (λ t. p a ≡ t → filter p (cond t (f a ∷ l) (a ∷ change p f l)) ≡ change_head f (cond t (a ∷ filter p l) (filter p l))) [
         | true ↦ λ e. rw (h a, e)
         | false ↦ λ e. rw e (keep_change_own h l)
       ]) refl
 
-  pub keep_change_other : (q : A → Bool) → ((a : A) → p a ≡ true → q a ≡ false) → ((a : A) → q (f a) ≡ q a) → (l : List A) → keep q (change p f l) ≡ keep q l
-  unfolding keep change
+  pub keep_change_other : (q : A → Bool) → ((a : A) → p a ≡ true → q a ≡ false) → ((a : A) → q (f a) ≡ q a) → (l : List A) → filter q (change p f l) ≡ filter q l
+  unfolding change
   keep_change_other q d h [] = refl
   keep_change_other q d h (a ∷ l) =
-      (elim (p a) as (λ t. p a ≡ t → keep q (cond t (f a ∷ l) (a ∷ change p f l)) ≡ cond (q a) (a ∷ keep q l) (keep q l)) [
+      (elim (p a) as (λ t. p a ≡ t → filter q (cond t (f a ∷ l) (a ∷ change p f l)) ≡ cond (q a) (a ∷ filter q l) (filter q l)) [
         | true ↦ λ e. rw (h a, d a e)
         | false ↦ λ e. ap (λ r. cond (q a) (a ∷ r) r) (keep_change_other q d h l)
       ]) refl
@@ -189,28 +191,28 @@ unfolding is_writer new_writer
 own_writer g w = and_true (same_guid g g) (same_guid w w) (same_refl g) (same_refl w)
 
 module _ (g w : Guid) (f : Writer → Writer) (same : (h v : Guid) (x : Writer) → is_writer h v (f x) ≡ is_writer h v x) where
-  heard_own : (l : List Writer) → change_head f (keep (λ x. is_writer g w x) (hear_writer g w l)) ≡ told_head f (new_writer g w) (keep (λ x. is_writer g w x) l)
-  unfolding hear_writer knows_writer keep
+  heard_own : (l : List Writer) → change_head f (filter (λ x. is_writer g w x) (hear_writer g w l)) ≡ told_head f (new_writer g w) (filter (λ x. is_writer g w x) l)
+  unfolding hear_writer knows_writer
   heard_own l =
-      (elim (any (λ x. is_writer g w x) l) as (λ t. any (λ x. is_writer g w x) l ≡ t → change_head f (keep (λ x. is_writer g w x) (cond t l (l ++ (new_writer g w ∷ [])))) ≡ told_head f (new_writer g w) (keep (λ x. is_writer g w x) l)) [
-        | true ↦ λ e. (elim (keep (λ x. is_writer g w x) l) as (λ k. keep (λ x. is_writer g w x) l ≡ k → change_head f k ≡ told_head f (new_writer g w) k) [
-          | [] ↦ λ d. not_both (any (λ x. is_writer g w x) l) e (kept_none (λ x. is_writer g w x) l d)
+      (elim (list_any (λ x. is_writer g w x) l) as (λ t. list_any (λ x. is_writer g w x) l ≡ t → change_head f (filter (λ x. is_writer g w x) (cond t l (l ++ (new_writer g w ∷ [])))) ≡ told_head f (new_writer g w) (filter (λ x. is_writer g w x) l)) [
+        | true ↦ λ e. (elim (filter (λ x. is_writer g w x) l) as (λ k. filter (λ x. is_writer g w x) l ≡ k → change_head f k ≡ told_head f (new_writer g w) k) [
+          | [] ↦ λ d. not_both (list_any (λ x. is_writer g w x) l) e (kept_none (λ x. is_writer g w x) l d)
           | x ∷ k ↦ λ d. refl
         ]) refl
         | false ↦ λ e. rw (keep_append (λ x. is_writer g w x) l (new_writer g w ∷ []), keep_none (λ x. is_writer g w x) l e, own_writer g w)
       ]) refl
 
-  pub tell_own : (l : List Writer) → keep (λ x. is_writer g w x) (tell g w f l) ≡ told_head f (new_writer g w) (keep (λ x. is_writer g w x) l)
+  pub tell_own : (l : List Writer) → filter (λ x. is_writer g w x) (tell g w f l) ≡ told_head f (new_writer g w) (filter (λ x. is_writer g w x) l)
   unfolding tell
   tell_own l = keep_change_own (λ x. is_writer g w x) f (λ a. same g w a) (hear_writer g w l) ∙ heard_own l
 
-  pub tell_other : (h v : Guid) → ((x : Writer) → is_writer g w x ≡ true → is_writer h v x ≡ false) → (l : List Writer) → keep (λ x. is_writer h v x) (tell g w f l) ≡ keep (λ x. is_writer h v x) l
-  unfolding tell hear_writer keep
+  pub tell_other : (h v : Guid) → ((x : Writer) → is_writer g w x ≡ true → is_writer h v x ≡ false) → (l : List Writer) → filter (λ x. is_writer h v x) (tell g w f l) ≡ filter (λ x. is_writer h v x) l
+  unfolding tell hear_writer
   tell_other h v d l =
       keep_change_other (λ x. is_writer g w x) f (λ x. is_writer h v x) d (λ a. same h v a) (hear_writer g w l)
-      ∙ (elim (knows_writer g w l) as (λ t. keep (λ x. is_writer h v x) (cond t l (l ++ (new_writer g w ∷ []))) ≡ keep (λ x. is_writer h v x) l) [
+      ∙ (elim (knows_writer g w l) as (λ t. filter (λ x. is_writer h v x) (cond t l (l ++ (new_writer g w ∷ []))) ≡ filter (λ x. is_writer h v x) l) [
         | true ↦ refl
-        | false ↦ rw (keep_append (λ x. is_writer h v x) l (new_writer g w ∷ []), d (new_writer g w) (own_writer g w)) (append-nil (keep (λ x. is_writer h v x) l))
+        | false ↦ rw (keep_append (λ x. is_writer h v x) l (new_writer g w ∷ []), d (new_writer g w) (own_writer g w)) (append-nil (filter (λ x. is_writer h v x) l))
       ])
 
 -- ---- a group's writers
@@ -236,8 +238,8 @@ module _ (g w : Guid) (fm : Progress → Progress) (f : Writer → Writer) (same
   unfolding entry guids
   writers_own m l k = record {
     at = λ v. rw (get_insert guids_lawful v w (fm (or_default no_progress (get guids w m))) m)
-        ((elim (same_guid v w) as (λ t. same_guid v w ≡ t → WriterLike (cond t (Some (fm (or_default no_progress (get guids w m)))) (get guids v m)) (keep (λ x. is_writer g v x) (tell g w f l))) [
-          | true ↦ λ e. rw (same_eq v w e, tell_own g w f same l) (told_like (get guids w m) (keep (λ x. is_writer g w x) l) (k.at w))
+        ((elim (same_guid v w) as (λ t. same_guid v w ≡ t → WriterLike (cond t (Some (fm (or_default no_progress (get guids w m)))) (get guids v m)) (filter (λ x. is_writer g v x) (tell g w f l))) [
+          | true ↦ λ e. rw (same_eq v w e, tell_own g w f same l) (told_like (get guids w m) (filter (λ x. is_writer g w x) l) (k.at w))
           | false ↦ λ e. rw (tell_other g w f same g v (λ x d. other_writer g g w v x e d) l) (k.at v)
         ]) refl);
     ascend = insert_ascends guids_lawful w (fm (or_default no_progress (get guids w m))) m k.ascend;
@@ -252,22 +254,22 @@ module _ (g w : Guid) (fm : Progress → Progress) (f : Writer → Writer) (same
 -- ---- groups
 
 module _ {X : Type 0} where
-  above_unknown : (g : Guid) (m : List (Guid × S.Group X)) → all (λ y. guids.less g y.0) m ≡ true → knows_group g (map (λ x. flat x) m) ≡ false
-  unfolding knows_group is_group flat all any guids
+  above_unknown : (g : Guid) (m : List (Guid × S.Group X)) → list_all (λ y. guids.less g y.0) m ≡ true → knows_group g (map (λ x. flat x) m) ≡ false
+  unfolding knows_group is_group flat guids
   above_unknown g [] e = refl
   above_unknown g (x ∷ m) e = rw (guids_lawful.less_apart g x.0 (and_left (before g x.0) _ e)) (above_unknown g m (and_right (before g x.0) _ e))
 
 hear_past : (g : Guid) (y : Group) (l : List Group) → same_guid g y.guid ≡ false → before g y.guid ≡ false → hear_group g (y ∷ l) ≡ y ∷ hear_group g l
-unfolding hear_group knows_group is_group any insert_group new_group
+unfolding hear_group knows_group is_group insert_group new_group
 hear_past g y l d e =
-    rw (d, e) (elim (any (λ x. is_group g x) l) as (λ t. cond t (y ∷ l) (y ∷ insert_group (new_group g) l) ≡ y ∷ cond t l (insert_group (new_group g) l)) [ true ↦ refl | false ↦ refl ])
+    rw (d, e) (elim (list_any (λ x. is_group g x) l) as (λ t. cond t (y ∷ l) (y ∷ insert_group (new_group g) l) ≡ y ∷ cond t l (insert_group (new_group g) l)) [ true ↦ refl | false ↦ refl ])
 
 hear_here : (g : Guid) (y : Group) (l : List Group) → same_guid g y.guid ≡ true → hear_group g (y ∷ l) ≡ y ∷ l
-unfolding hear_group knows_group is_group any
+unfolding hear_group knows_group is_group
 hear_here g y l d = rw d
 
 hear_none : (g : Guid) → hear_group g [] ≡ new_group g ∷ []
-unfolding hear_group knows_group any insert_group
+unfolding hear_group knows_group insert_group
 hear_none g = refl
 
 hear_before : (g : Guid) (y : Group) (l : List Group) → knows_group g (y ∷ l) ≡ false → before g y.guid ≡ true → hear_group g (y ∷ l) ≡ new_group g ∷ y ∷ l
@@ -303,11 +305,11 @@ module _ {X : Type 0} where
   unfolding insert guids
   insert_past g v x m d e = rw (d, e)
 
-  unknown_before : (g : Guid) (x : Guid × S.Group X) (m : List (Guid × S.Group X)) → same_guid g x.0 ≡ false → all (λ y. guids.less g y.0) m ≡ true → knows_group g (flat x ∷ map (λ x. flat x) m) ≡ false
-  unfolding knows_group is_group any flat
+  unknown_before : (g : Guid) (x : Guid × S.Group X) (m : List (Guid × S.Group X)) → same_guid g x.0 ≡ false → list_all (λ y. guids.less g y.0) m ≡ true → knows_group g (flat x ∷ map (λ x. flat x) m) ≡ false
+  unfolding knows_group is_group flat
   unknown_before g x m d e = rw d (above_unknown g m e)
 
-  above_all : (g : Guid) (x : Guid × S.Group X) (m : List (Guid × S.Group X)) → before g x.0 ≡ true → all (λ y. guids.less x.0 y.0) m ≡ true → all (λ y. guids.less g y.0) m ≡ true
+  above_all : (g : Guid) (x : Guid × S.Group X) (m : List (Guid × S.Group X)) → before g x.0 ≡ true → list_all (λ y. guids.less x.0 y.0) m ≡ true → list_all (λ y. guids.less g y.0) m ≡ true
   unfolding guids
   above_all g x m d e = all_imp (λ y. before x.0 y.0) (λ y. before g y.0) (λ y k. guids_lawful.trans g x.0 y.0 d k) m e
 
@@ -315,13 +317,13 @@ module _ {X : Type 0} where
   unfolding is_group flat
   is_flat g x = refl
 
-  ascends_first : (x : Guid × S.Group X) (m : List (Guid × S.Group X)) → ascends guids (x ∷ m) ≡ true → all (λ y. guids.less x.0 y.0) m ≡ true
+  ascends_first : (x : Guid × S.Group X) (m : List (Guid × S.Group X)) → ascends guids (x ∷ m) ≡ true → list_all (λ y. guids.less x.0 y.0) m ≡ true
   unfolding ascends
-  ascends_first x m e = and_left (all (λ y. guids.less x.0 y.0) m) _ e
+  ascends_first x m e = and_left (list_all (λ y. guids.less x.0 y.0) m) _ e
 
   ascends_rest : (x : Guid × S.Group X) (m : List (Guid × S.Group X)) → ascends guids (x ∷ m) ≡ true → ascends guids m ≡ true
   unfolding ascends
-  ascends_rest x m e = and_right (all (λ y. guids.less x.0 y.0) m) _ e
+  ascends_rest x m e = and_right (list_all (λ y. guids.less x.0 y.0) m) _ e
 
   same_flat : (g : Guid) (x : Guid × S.Group X) → same_guid g x.0 ≡ true → flat x ≡ flat (g, x.1)
   unfolding flat

@@ -8,12 +8,15 @@ use lib.IntN.{ℤ, pos}
 use lib.Dec.{ltb}
 use lib.ListN.{length, get_or}
 use Rattle.laws.specs.Whole.{eq_z}
-use Rattle.laws.specs.Lists.{keep, all, any, is_some}
+use Rattle.laws.specs.Lists.{filter, list_all, list_any, is_some}
 use Rattle.guids.specs.Guid.{Guid}
-use Rattle.rules.specs.Entry.{Entry, is_sample, of_group, in_set, of_pair, marks}
-use Rattle.rules.specs.State.{State, Group, Writer, is_writer}
+use Rattle.rules.specs.Entry.{is_sample, of_group, in_set, of_pair, marks}
+use Rattle.rules.specs.declared.entry.Entry.{Entry}
+use Rattle.rules.specs.State.{State, is_writer}
+use Rattle.rules.specs.declared.state.Group.{Group}
+use Rattle.rules.specs.declared.state.Writer.{Writer}
 use Rattle.rules.specs.Marks.{number}
-use Rattle.rules.specs.Offer.{Offer}
+use Rattle.rules.specs.declared.call.Offer.{Offer}
 use Rattle.source_model.specs.Claim.{cut_counts}
 use Rattle.source_model.specs.Map.{guids, numbers, readers, pairs, or_default, get, ascends}
 use Rattle.source_model.specs.Source.{SetEnd, HeartbeatInfo, Progress, OpenSet, GroupOrder, no_group}
@@ -44,7 +47,7 @@ module _ {X : Type 0} where
 
 -- pending: at each number the group's entries of that number, in offer order
 pub record PendingLike {X : Type 0} (g : Guid) (m : List (ℤ × List (S.Entry X))) (l : List (Entry X)) : Type 0 where
-  pub at : (n : ℤ) → get numbers n m ≡ vec_of (map (λ e. as_entry e) (keep (λ e. is_at g n e) l))
+  pub at : (n : ℤ) → get numbers n m ≡ vec_of (map (λ e. as_entry e) (filter (λ e. is_at g n e) l))
   pub ascend : ascends numbers m ≡ true
 
 -- ---- open sets
@@ -60,18 +63,18 @@ pub data EndLike {X : Type 0} : Option SetEnd → List (Entry X) → Type 0 wher
 
 -- an open set: members, kept ends and the flag
 pub record OpenLike {X : Type 0} (s : OpenSet X) (l : List (Entry X)) : Type 0 where
-  pub members : s.members ≡ map (λ e. as_entry e) (keep (λ h. is_sample h) l)
-  pub ends : (p : Guid × ℕ) → EndLike (get pairs p s.ends) (keep (λ h. is_pair_end p h) l)
+  pub members : s.members ≡ map (λ e. as_entry e) (filter (λ h. is_sample h) l)
+  pub ends : (p : Guid × ℕ) → EndLike (get pairs p s.ends) (filter (λ h. is_pair_end p h) l)
   pub ends_ascend : ascends pairs s.ends ≡ true
-  pub ended : s.end_committed ≡ any (λ h. marks h) l
+  pub ended : s.end_committed ≡ list_any (λ h. marks h) l
 
 -- a set is open exactly when an entry is held in it
 pub data SetLike {X : Type 0} : Option (OpenSet X) → List (Entry X) → Type 0 where
   closed : SetLike None []
-  opened : {s : OpenSet X} {l : List (Entry X)} → any (λ h. true) l ≡ true → OpenLike s l → SetLike (Some s) l
+  opened : {s : OpenSet X} {l : List (Entry X)} → list_any (λ h. true) l ≡ true → OpenLike s l → SetLike (Some s) l
 
 pub record SetsLike {X : Type 0} (g : Guid) (m : List (ℤ × OpenSet X)) (l : List (Entry X)) : Type 0 where
-  pub at : (z : ℤ) → SetLike (get numbers z m) (keep (λ h. in_set g z h) l)
+  pub at : (z : ℤ) → SetLike (get numbers z m) (filter (λ h. in_set g z h) l)
   pub ascend : ascends numbers m ≡ true
 
 -- ---- writers
@@ -104,7 +107,7 @@ pub data WriterLike : Option Progress → List Writer → Type 0 where
   known : {p : Progress} {w : Writer} → ProgressLike p w → WriterLike (Some p) (w ∷ [])
 
 pub record WritersLike (g : Guid) (m : List (Guid × Progress)) (l : List Writer) : Type 0 where
-  pub at : (w : Guid) → WriterLike (get guids w m) (keep (λ x. is_writer g w x) l)
+  pub at : (w : Guid) → WriterLike (get guids w m) (filter (λ x. is_writer g w x) l)
   pub ascend : ascends guids m ≡ true
 
 -- ---- a group, known or not, and the whole
@@ -124,7 +127,7 @@ pub record Like {X : Type 0} (o : GroupOrder X) (s : State X) : Type 0 where
   pub groups : s.groups ≡ map (λ x. flat x) o.groups
   pub ascend : ascends guids o.groups ≡ true
   pub each : (g : Guid) → GroupLike g (or_default no_group (get guids g o.groups)) s.writers s.pending s.held
-  pub pending_plain : all (λ e. is_fresh e) s.pending ≡ true
-  pub held_sets : all (λ h. is_some h.set) s.held ≡ true
+  pub pending_plain : list_all (λ e. is_fresh e) s.pending ≡ true
+  pub held_sets : list_all (λ h. is_some h.set) s.held ≡ true
   pub counts : s.counts ≡ cut_counts o.counts
   pub timeout : s.timeout ≡ o.timeout

@@ -10,7 +10,7 @@ use lib.Signed.{lt_z}
 use lib.Dec.{ltb, eqb}
 use borrow.Author.Tests.{ltb-true, ltb-false, lt-ltb, eqb-true, eq-eqb, ne_eqb}
 use Rattle.laws.specs.Whole.{eq_z}
-use Rattle.laws.specs.Lists.{keep, all, count}
+use Rattle.laws.specs.Lists.{filter, list_all, count}
 use Rattle.guids.specs.Guid.{Guid, same_guid, before}
 use Rattle.laws.proofs.Lists.{not_both, and_true, and_left, and_right, all_keep, all_imp, count_split, count_cons, keep_keep, count_nil, keep_none, keep_under, any_empty, or_true_left, or_true_right}
 use Rattle.guids.proofs.Guids.{same_eq, same_refl, same_sym, before_not_same, trichotomy, before_trans}
@@ -140,7 +140,7 @@ module _ {K A : Type 0} {o : Order K} (lo : Lawful o) where
       ]) refl
 
   pub get_remove : (j k : K) (m : List (K × A)) → get o j (remove o k m) ≡ cond (o.same j k) None (get o j m)
-  unfolding get remove keep
+  unfolding get remove
   get_remove j k [] = elim (o.same j k) as (λ b. ◌≡◌ {A = Option A} None (cond b None None)) [ true ↦ refl | false ↦ refl ]
   get_remove j k (x ∷ m) =
       (elim (o.same k x.0) as (λ b. o.same k x.0 ≡ b → get o j (cond (not b) (x ∷ remove o k m) (remove o k m)) ≡ cond (o.same j k) None (cond (o.same j x.0) (Some x.1) (get o j m))) [
@@ -151,44 +151,44 @@ module _ {K A : Type 0} {o : Order K} (lo : Lawful o) where
         ]) refl
       ]) refl
 
-  pub insert_all : (p : K × A → Bool) (k : K) (v : A) (m : List (K × A)) → p (k, v) ≡ true → all p m ≡ true → all p (insert o k v m) ≡ true
-  unfolding insert all
+  pub insert_all : (p : K × A → Bool) (k : K) (v : A) (m : List (K × A)) → p (k, v) ≡ true → list_all p m ≡ true → list_all p (insert o k v m) ≡ true
+  unfolding insert
   insert_all p k v [] d e = and_true (p (k, v)) true d refl
   insert_all p k v (x ∷ m) d e =
-      elim (o.same k x.0) as (λ b. all p (cond b ((k, v) ∷ m) (cond (o.less k x.0) ((k, v) ∷ x ∷ m) (x ∷ insert o k v m))) ≡ true) [
+      elim (o.same k x.0) as (λ b. list_all p (cond b ((k, v) ∷ m) (cond (o.less k x.0) ((k, v) ∷ x ∷ m) (x ∷ insert o k v m))) ≡ true) [
         | true ↦ and_true (p (k, v)) _ d (and_right (p x) _ e)
-        | false ↦ (elim (o.less k x.0) as (λ b. all p (cond b ((k, v) ∷ x ∷ m) (x ∷ insert o k v m)) ≡ true) [
+        | false ↦ (elim (o.less k x.0) as (λ b. list_all p (cond b ((k, v) ∷ x ∷ m) (x ∷ insert o k v m)) ≡ true) [
           | true ↦ and_true (p (k, v)) _ d e
           | false ↦ and_true (p x) _ (and_left (p x) _ e) (insert_all p k v m d (and_right (p x) _ e))
         ])
       ]
 
   pub insert_ascends : (k : K) (v : A) (m : List (K × A)) → ascends o m ≡ true → ascends o (insert o k v m) ≡ true
-  unfolding insert ascends all
+  unfolding insert ascends
   insert_ascends k v [] e = refl
   insert_ascends k v (x ∷ m) e =
-      let a = and_left (all (λ y. o.less x.0 y.0) m) _ e in
-      let r = and_right (all (λ y. o.less x.0 y.0) m) _ e in
+      let a = and_left (list_all (λ y. o.less x.0 y.0) m) _ e in
+      let r = and_right (list_all (λ y. o.less x.0 y.0) m) _ e in
       (elim (o.same k x.0) as (λ b. o.same k x.0 ≡ b → ascends o (cond b ((k, v) ∷ m) (cond (o.less k x.0) ((k, v) ∷ x ∷ m) (x ∷ insert o k v m))) ≡ true) [
         | true ↦ λ d. rw (lo.same_is k x.0 d) e
         | false ↦ λ d. (elim (o.less k x.0) as (λ b. o.less k x.0 ≡ b → ascends o (cond b ((k, v) ∷ x ∷ m) (x ∷ insert o k v m)) ≡ true) [
-          | true ↦ λ f. and_true (o.less k x.0 && all (λ y. o.less k y.0) m) _ (and_true (o.less k x.0) _ f (all_imp (λ y. o.less x.0 y.0) (λ y. o.less k y.0) (λ y h. lo.trans k x.0 y.0 f h) m a)) e
-          | false ↦ λ f. and_true (all (λ y. o.less x.0 y.0) (insert o k v m)) _ (insert_all (λ y. o.less x.0 y.0) k v m (lo.third k x.0 d f) a) (insert_ascends k v m r)
+          | true ↦ λ f. and_true (o.less k x.0 && list_all (λ y. o.less k y.0) m) _ (and_true (o.less k x.0) _ f (all_imp (λ y. o.less x.0 y.0) (λ y. o.less k y.0) (λ y h. lo.trans k x.0 y.0 f h) m a)) e
+          | false ↦ λ f. and_true (list_all (λ y. o.less x.0 y.0) (insert o k v m)) _ (insert_all (λ y. o.less x.0 y.0) k v m (lo.third k x.0 d f) a) (insert_ascends k v m r)
         ]) refl
       ]) refl
 
   pub remove_ascends : (k : K) (m : List (K × A)) → ascends o m ≡ true → ascends o (remove o k m) ≡ true
-  unfolding ascends remove keep
+  unfolding ascends remove
   remove_ascends k [] e = refl
   remove_ascends k (x ∷ m) e =
       elim (o.same k x.0) as (λ b. ascends o (cond (not b) (x ∷ remove o k m) (remove o k m)) ≡ true) [
-        | true ↦ remove_ascends k m (and_right (all (λ y. o.less x.0 y.0) m) _ e)
-        | false ↦ and_true (all (λ y. o.less x.0 y.0) (remove o k m)) _ (all_keep (λ y. o.less x.0 y.0) (λ y. not (o.same k y.0)) m (and_left (all (λ y. o.less x.0 y.0) m) _ e)) (remove_ascends k m (and_right (all (λ y. o.less x.0 y.0) m) _ e))
+        | true ↦ remove_ascends k m (and_right (list_all (λ y. o.less x.0 y.0) m) _ e)
+        | false ↦ and_true (list_all (λ y. o.less x.0 y.0) (remove o k m)) _ (all_keep (λ y. o.less x.0 y.0) (λ y. not (o.same k y.0)) m (and_left (list_all (λ y. o.less x.0 y.0) m) _ e)) (remove_ascends k m (and_right (list_all (λ y. o.less x.0 y.0) m) _ e))
       ]
 
   -- a key before all of a map's is not in it
-  pub get_above : (k : K) (m : List (K × A)) → all (λ y. o.less k y.0) m ≡ true → get o k m ≡ None
-  unfolding get all
+  pub get_above : (k : K) (m : List (K × A)) → list_all (λ y. o.less k y.0) m ≡ true → get o k m ≡ None
+  unfolding get
   get_above k [] e = refl
   get_above k (x ∷ m) e = rw (lo.less_apart k x.0 (and_left (o.less k x.0) _ e)) (get_above k m (and_right (o.less k x.0) _ e))
 
@@ -214,30 +214,29 @@ not_and_same false = refl
 module _ {K A B : Type 0} {o : Order K} (lo : Lawful o) (is : K → B → Bool) (key : B → K) (q : B → Bool) (len : A → ℕ)
     (own : (b : B) → q b ≡ true → is (key b) b ≡ true)
     (once : (k j : K) (b : B) → is k b ≡ true → is j b ≡ true → o.same k j ≡ true) where
-  none_at_all : (l : List B) → ((k : K) → count q (keep (λ b. is k b) l) ≡ 0) → count q l ≡ 0
-  unfolding keep
+  none_at_all : (l : List B) → ((k : K) → count q (filter (λ b. is k b) l) ≡ 0) → count q l ≡ 0
   none_at_all [] h = count_nil q
   none_at_all (b ∷ l) h =
-      let rest : (k : K) → count q (keep (λ b. is k b) l) ≡ 0 = λ k.
-      (elim (is k b) as (λ t. count q (cond t (b ∷ keep (λ b. is k b) l) (keep (λ b. is k b) l)) ≡ 0 → count q (keep (λ b. is k b) l) ≡ 0) [ true ↦ λ e. omega (arith, e, count_cons q b (keep (λ b. is k b) l)) | false ↦ λ e. e ]) (h k) in
+      let rest : (k : K) → count q (filter (λ b. is k b) l) ≡ 0 = λ k.
+      (elim (is k b) as (λ t. count q (cond t (b ∷ filter (λ b. is k b) l) (filter (λ b. is k b) l)) ≡ 0 → count q (filter (λ b. is k b) l) ≡ 0) [ true ↦ λ e. omega (arith, e, count_cons q b (filter (λ b. is k b) l)) | false ↦ λ e. e ]) (h k) in
       (elim (q b) as (λ t. q b ≡ t → count q (b ∷ l) ≡ 0) [
-        | true ↦ λ e. absurd (omega (arith, rw (own b e) at (h (key b)), rw e at (count_cons q b (keep (λ x. is (key b) x) l))))
+        | true ↦ λ e. absurd (omega (arith, rw (own b e) at (h (key b)), rw e at (count_cons q b (filter (λ x. is (key b) x) l))))
         | false ↦ λ e. rw (count_cons q b l, e, none_at_all l rest)
       ]) refl
 
-  rest_of : (x : K × A) (m : List (K × A)) (l : List B) → all (λ y. o.less x.0 y.0) m ≡ true
-      → ((k : K) → count q (keep (λ b. is k b) l) ≡ len_o len (get o k (x ∷ m)))
-      → (k : K) → count q (keep (λ b. is k b) (keep (λ b. not (is x.0 b)) l)) ≡ len_o len (get o k m)
+  rest_of : (x : K × A) (m : List (K × A)) (l : List B) → list_all (λ y. o.less x.0 y.0) m ≡ true
+      → ((k : K) → count q (filter (λ b. is k b) l) ≡ len_o len (get o k (x ∷ m)))
+      → (k : K) → count q (filter (λ b. is k b) (filter (λ b. not (is x.0 b)) l)) ≡ len_o len (get o k m)
   rest_of x m l e h k =
-      (elim (o.same k x.0) as (λ t. o.same k x.0 ≡ t → count q (keep (λ b. is k b) (keep (λ b. not (is x.0 b)) l)) ≡ len_o len (get o k m)) [
+      (elim (o.same k x.0) as (λ t. o.same k x.0 ≡ t → count q (filter (λ b. is k b) (filter (λ b. not (is x.0 b)) l)) ≡ len_o len (get o k m)) [
         | true ↦ λ d. rw (lo.same_is k x.0 d, get_above lo x.0 m e, keep_keep (λ b. is x.0 b) (λ b. not (is x.0 b)) l, keep_none (λ b. not (is x.0 b) && is x.0 b) l (any_empty (λ b. not (is x.0 b) && is x.0 b) (λ b. not_and_same (is x.0 b)) l)) (count_nil q)
         | false ↦ λ d. ap (λ r. count q r) (keep_under (λ b. not (is x.0 b)) (λ b. is k b) (λ b f. (elim (is x.0 b) as (λ t. is x.0 b ≡ t → not t ≡ true) [ true ↦ λ g. not_both (o.same k x.0) (once k x.0 b f g) d | false ↦ λ g. refl ]) refl) l) ∙ h k ∙ ap (λ r. len_o len r) (get_past lo k x m d)
       ]) refl
 
-  pub count_over : (m : List (K × A)) (l : List B) → ascends o m ≡ true → ((k : K) → count q (keep (λ b. is k b) l) ≡ len_o len (get o k m)) → count q l ≡ sum_of (λ x. len x.1) m
+  pub count_over : (m : List (K × A)) (l : List B) → ascends o m ≡ true → ((k : K) → count q (filter (λ b. is k b) l) ≡ len_o len (get o k m)) → count q l ≡ sum_of (λ x. len x.1) m
   unfolding ascends sum_of get
   count_over [] l e h = none_at_all l h
   count_over (x ∷ m) l e h =
-      let ih = count_over m (keep (λ b. not (is x.0 b)) l) (and_right (all (λ y. o.less x.0 y.0) m) _ e) (rest_of x m l (and_left (all (λ y. o.less x.0 y.0) m) _ e) h) in
-      let hx : count q (keep (λ b. is x.0 b) l) ≡ len x.1 = h x.0 ∙ ap (λ r. len_o len r) (get_found lo x.0 x m (lo.same_self x.0)) in
+      let ih = count_over m (filter (λ b. not (is x.0 b)) l) (and_right (list_all (λ y. o.less x.0 y.0) m) _ e) (rest_of x m l (and_left (list_all (λ y. o.less x.0 y.0) m) _ e) h) in
+      let hx : count q (filter (λ b. is x.0 b) l) ≡ len x.1 = h x.0 ∙ ap (λ r. len_o len r) (get_found lo x.0 x m (lo.same_self x.0)) in
       omega (arith, ih, hx, count_split (λ b. is x.0 b) q l)

@@ -8,10 +8,13 @@ use lib.IntN.{ℤ, pos, negsuc}
 use lib.Dec.{ltb}
 use Rattle.laws.specs.Lists.{change}
 use Rattle.guids.specs.Guid.{Guid, same_guid}
-use Rattle.rules.specs.Entry.{Entry}
-use Rattle.rules.specs.State.{State, Writer, is_group, is_writer}
+use Rattle.rules.specs.declared.entry.Entry.{Entry}
+use Rattle.rules.specs.State.{State, is_group, is_writer}
+use Rattle.rules.specs.declared.state.Writer.{Writer}
 use Rattle.rules.specs.Marks.{number, hear_group, saw, gapped, announced, announced_to, tell}
-use Rattle.rules.specs.Offer.{Heartbeat, Gap, with_marks}
+use Rattle.rules.specs.Offer.{with_marks}
+use Rattle.rules.specs.declared.call.Heartbeat.{Heartbeat}
+use Rattle.rules.specs.declared.call.Gap.{Gap}
 use Rattle.guids.proofs.Guids.{same_eq}
 use Rattle.source_model.specs.Map.{guids, or_default, get, insert, entry}
 use Rattle.source_model.specs.Source.{Progress, GroupOrder, max_z, heard, gap_to, no_group, with_writer, announce, heartbeat, gap}

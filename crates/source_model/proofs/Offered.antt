@@ -9,12 +9,20 @@ use lib.IntN.{ℤ, pos, negsuc}
 use lib.Signed.{le_z}
 use lib.Dec.{ltb, leb}
 use borrow.Author.Tests.{ltb-true, ltb-false, lt-ltb, le-ltb, le-leb, lt-leb}
-use Rattle.laws.specs.Lists.{keep, all, any, find, is_some}
+use Rattle.laws.specs.Lists.{filter, list_all, list_any, find, is_some}
 use Rattle.guids.specs.Guid.{Guid, same_guid}
-use Rattle.rules.specs.Entry.{What, sample, set_end, Entry, is_sample_w, same_set, of_group, in_set, marks}
-use Rattle.rules.specs.State.{State, Writer, Counts, plus, is_group, committed_in, committed_of}
+use Rattle.rules.specs.Entry.{set_end, is_sample_w, same_set, of_group, in_set, marks}
+use Rattle.rules.specs.declared.entry.What.{What}
+use Rattle.rules.specs.declared.entry.What.TheVariants.{Sample, End}
+use Rattle.rules.specs.declared.entry.Entry.{Entry}
+use Rattle.rules.specs.State.{State, plus, is_group, committed_in, committed_of}
+use Rattle.rules.specs.declared.state.Writer.{Writer}
+use Rattle.rules.specs.declared.state.ReleaseCounts.{ReleaseCounts}
 use Rattle.rules.specs.Marks.{number, hear_group, saw, tell}
-use Rattle.rules.specs.Offer.{Offer, Fate, is_stored, is_joined, is_late, fate, one_late, with_marks, entry_of, shares, replaced, marked, mark_of, join, place, heard_offer}
+use Rattle.rules.specs.Offer.{fate, one_late, with_marks, entry_of, shares, replaced, marked, mark_of, join, place, heard_offer}
+use Rattle.rules.specs.declared.call.Offer.{Offer}
+use Rattle.rules.specs.declared.call.Fate.{Fate}
+use Rattle.rules.specs.declared.call.Fate.TheVariants.{Stored, Joined, Late}
 use Rattle.rules.specs.Offer as F
 use Rattle.laws.proofs.Lists.{keep_same, keep_keep, any_empty, and_never, all_snoc, find_any, none_some}
 use Rattle.guids.proofs.Guids.{same_refl}
@@ -22,7 +30,7 @@ use Rattle.rules.proofs.Keeping.{join_all}
 use Rattle.rules.proofs.Hearing.{committed_cons}
 use Rattle.source_model.specs.Claim.{cut, cut_counts}
 use Rattle.source_model.specs.Map.{guids, numbers, pairs, or_default, get, insert}
-use Rattle.source_model.specs.Source.{SetEnd, OpenSet, no_set, GroupOrder, ReleaseCounts, sees, no_group, with_writer, pushed, with_sets, with_end, Did, did_push, did_join, did_count, join_or, joins, offer_to, group_of, late, late_if, first_of}
+use Rattle.source_model.specs.Source.{SetEnd, OpenSet, no_set, GroupOrder, sees, no_group, with_writer, pushed, with_sets, with_end, Did, did_push, did_join, did_count, join_or, joins, offer_to, group_of, late, late_if, first_of}
 use Rattle.source_model.specs.Source as S
 use Rattle.source_model.specs.Calls.{end_w, item_w, fate_of, new_end, adds}
 use Rattle.source_model.proofs.Maps.{guids_lawful, insert_ascends}
@@ -57,7 +65,7 @@ or_three true b c = refl
 or_three false b c = refl
 
 none_committed : (g : Guid) → committed_of g [] ≡ 0
-unfolding committed_of find committed_in
+unfolding committed_of committed_in
 none_committed g = refl
 
 flat_cons : {X : Type 0} (g : Guid) (x : Guid × S.Group X) (n : ℕ) → cond (same_guid g (flat x).guid) (flat x).committed n ≡ cond (same_guid g x.0) (number x.1.committed) n
@@ -76,22 +84,20 @@ module _ {X : Type 0} where
 -- ---- the mark of an end that joins
 
 module _ {X : Type 0} where
-  any_split : (q p : Entry X → Bool) (l : List (Entry X)) → any q l ≡ any q (keep (λ h. not (p h)) l) || any q (keep p l)
-  unfolding any keep
+  any_split : (q p : Entry X → Bool) (l : List (Entry X)) → list_any q l ≡ list_any q (filter (λ h. not (p h)) l) || list_any q (filter p l)
   any_split q p [] = refl
   any_split q p (a ∷ l) =
-      elim (p a) as (λ t. q a || any q l ≡ any q (cond (not t) (a ∷ keep (λ h. not (p h)) l) (keep (λ h. not (p h)) l)) || any q (cond t (a ∷ keep p l) (keep p l))) [
-        | true ↦ ap (λ r. q a || r) (any_split q p l) ∙ or_swap (q a) (any q (keep (λ h. not (p h)) l)) (any q (keep p l))
-        | false ↦ ap (λ r. q a || r) (any_split q p l) ∙ or_three (q a) (any q (keep (λ h. not (p h)) l)) (any q (keep p l))
+      elim (p a) as (λ t. q a || list_any q l ≡ list_any q (cond (not t) (a ∷ filter (λ h. not (p h)) l) (filter (λ h. not (p h)) l)) || list_any q (cond t (a ∷ filter p l) (filter p l))) [
+        | true ↦ ap (λ r. q a || r) (any_split q p l) ∙ or_swap (q a) (list_any q (filter (λ h. not (p h)) l)) (list_any q (filter p l))
+        | false ↦ ap (λ r. q a || r) (any_split q p l) ∙ or_three (q a) (list_any q (filter (λ h. not (p h)) l)) (list_any q (filter p l))
       ]
 
-  pub find_keep : (p : Entry X → Bool) (l : List (Entry X)) → find p l ≡ first_of (keep p l)
-  unfolding find keep
+  pub find_keep : (p : Entry X → Bool) (l : List (Entry X)) → find p l ≡ first_of (filter p l)
   find_keep p [] = refl
-  find_keep p (a ∷ l) = elim (p a) as (λ t. cond t (Some a) (find p l) ≡ first_of (cond t (a ∷ keep p l) (keep p l))) [ true ↦ refl | false ↦ find_keep p l ]
+  find_keep p (a ∷ l) = elim (p a) as (λ t. cond t (Some a) (find p l) ≡ first_of (cond t (a ∷ filter p l) (filter p l))) [ true ↦ refl | false ↦ find_keep p l ]
 
-  one_mark : (o : Option SetEnd) (l : List (Entry X)) → EndLike o l → any (λ h. marks h) l ≡ is_some (mark_of (first_of l))
-  unfolding any marks is_some
+  one_mark : (o : Option SetEnd) (l : List (Entry X)) → EndLike o l → list_any (λ h. marks h) l ≡ is_some (mark_of (first_of l))
+  unfolding marks is_some
   one_mark None [] no_end = refl
   one_mark (Some x) (e ∷ []) (one_end d) = or_false (is_some e.ended)
   one_mark None (e ∷ _) x3 = elim x3 [ ]
@@ -99,19 +105,19 @@ module _ {X : Type 0} where
   one_mark (Some x) (e ∷ (_ ∷ _)) x9 = elim x9 [ ]
 
   pub pair_kept : (g : Guid) (z : ℤ) (e : Entry X) (l : List (Entry X)) → of_group g e ≡ true → e.set ≡ Some z
-      → keep (λ h. replaced e h) l ≡ keep (λ h. is_pair_end (e.writer, e.reader) h) (keep (λ h. in_set g z h) l)
+      → filter (λ h. replaced e h) l ≡ filter (λ h. is_pair_end (e.writer, e.reader) h) (filter (λ h. in_set g z h) l)
   pair_kept g z e l o d =
       keep_same (λ h. replaced e h) (λ h. in_set g z h && is_pair_end (e.writer, e.reader) h) (λ h. replaced_in g z e h o d) l
       ∙ sym (keep_keep (λ h. is_pair_end (e.writer, e.reader) h) (λ h. in_set g z h) l)
 
-  joined_mark : (g : Guid) (z : ℤ) (e : Entry X) (s : OpenSet X) (l : List (Entry X)) → of_group g e ≡ true → e.set ≡ Some z → OpenLike s (keep (λ h. in_set g z h) l)
-      → s.end_committed ≡ any (λ h. marks h) (keep (λ h. not (is_pair_end (e.writer, e.reader) h)) (keep (λ h. in_set g z h) l)) || is_some (mark_of (find (λ h. replaced e h) l))
+  joined_mark : (g : Guid) (z : ℤ) (e : Entry X) (s : OpenSet X) (l : List (Entry X)) → of_group g e ≡ true → e.set ≡ Some z → OpenLike s (filter (λ h. in_set g z h) l)
+      → s.end_committed ≡ list_any (λ h. marks h) (filter (λ h. not (is_pair_end (e.writer, e.reader) h)) (filter (λ h. in_set g z h) l)) || is_some (mark_of (find (λ h. replaced e h) l))
   joined_mark g z e s l o d k =
       let q : Guid × ℕ = (e.writer, e.reader) in
-      let r : List (Entry X) = keep (λ h. in_set g z h) l in
+      let r : List (Entry X) = filter (λ h. in_set g z h) l in
       k.ended ∙ any_split (λ h. marks h) (λ h. is_pair_end q h) r
-      ∙ ap (λ b. any (λ h. marks h) (keep (λ h. not (is_pair_end q h)) r) || b)
-      (one_mark (get pairs q s.ends) (keep (λ h. is_pair_end q h) r) (k.ends q)
+      ∙ ap (λ b. list_any (λ h. marks h) (filter (λ h. not (is_pair_end q h)) r) || b)
+      (one_mark (get pairs q s.ends) (filter (λ h. is_pair_end q h) r) (k.ends q)
       ∙ ap (λ w. is_some (mark_of (first_of w))) (sym (pair_kept g z e l o d)) ∙ ap (λ w. is_some (mark_of w)) (sym (find_keep (λ h. replaced e h) l)))
 
 pub open_of : {X : Type 0} (t : OpenSet X) (l : List (Entry X)) (u : Option (OpenSet X)) → u ≡ Some t → SetLike u l → OpenLike t l
@@ -132,7 +138,7 @@ pair_there {X = X} (Some x) (e ∷ (_ ∷ _)) x9 = elim x9 [ ]
 pub late_cut : (c : ReleaseCounts) → one_late (cut_counts c) ≡ cut_counts (late c)
 unfolding one_late cut_counts late plus cut
 late_cut c =
-    ap (λ k. record { skipped = cut c.skipped_after_timeout; incomplete = cut c.incomplete_sets; discarded = cut c.discarded_samples; late = k })
+    ap (λ k. record { skipped_after_timeout = cut c.skipped_after_timeout; incomplete_sets = cut c.incomplete_sets; discarded_samples = cut c.discarded_samples; late_samples = k })
     (let e : min (min c.late_samples (2 ^ 64 - 1) + 1) (2 ^ 64 - 1) ≡ min (c.late_samples + 1) (2 ^ 64 - 1) = omega arith in e)
 
 module _ {X : Type 0} (o : GroupOrder X) (s : State X) (x : Offer X) (l : Like o s) (r : x.reader < 8) where
@@ -153,10 +159,10 @@ module _ {X : Type 0} (o : GroupOrder X) (s : State X) (x : Offer X) (l : Like o
   unfolding told
   other_after h d = other_writer_told x.group x.writer (λ p. sees x.reader x.number x.digest p) (λ w. saw x.reader (number x.number) x.digest w) (saw_names x.reader (number x.number) x.digest) (λ p w k. sees_alike x.reader x.number x.digest p w r k) h (or_default no_group (get guids h o.groups)) s.writers s.pending s.held d (l.each h)
 
-  built : (v : S.Group X) (ps hs : List (Entry X)) (mc : ReleaseCounts) (fc : Counts) → flat (x.group, old) ≡ flat (x.group, v)
+  built : (v : S.Group X) (ps hs : List (Entry X)) (mc : ReleaseCounts) (fc : ReleaseCounts) → flat (x.group, old) ≡ flat (x.group, v)
       → GroupLike x.group v told ps hs
       → ((h : Guid) → same_guid h x.group ≡ false → GroupLike h (or_default no_group (get guids h o.groups)) told ps hs)
-      → all (λ e. is_fresh e) ps ≡ true → all (λ h. is_some h.set) hs ≡ true → fc ≡ cut_counts mc
+      → list_all (λ e. is_fresh e) ps ≡ true → list_all (λ h. is_some h.set) hs ≡ true → fc ≡ cut_counts mc
       → Like (record { groups = insert guids x.group v o.groups; timeout = o.timeout; counts = mc })
       (record { groups = hear_group x.group s.groups; writers = told; pending = ps; held = hs; counts = fc; timeout = s.timeout })
   unfolding old
@@ -187,7 +193,7 @@ module _ {X : Type 0} (o : GroupOrder X) (s : State X) (x : Offer X) (l : Like o
     pub adds_same : adds d (offer_entry x) old ≡ F.adds f s x
     pub like : Like (record { groups = insert guids x.group (group_of d) o.groups; timeout = o.timeout; counts = late_if d o.counts }) (place f (entry_of x) (heard_offer x s))
 
-  goes_late : Goes (did_count after) is_late
+  goes_late : Goes (did_count after) Late
   unfolding F.adds place heard_offer with_marks after told old
   goes_late = record {
     fate_same = refl;
@@ -218,7 +224,7 @@ module _ {X : Type 0} (o : GroupOrder X) (s : State X) (x : Offer X) (l : Like o
   unfolding flat pushed after with_writer
   push_flat e = refl
 
-  goes_push : x.number ≡ pos (number x.number) → ltb (number old.committed) (number x.number) ≡ true → Goes (did_push (pushed (offer_entry x) after)) is_stored
+  goes_push : x.number ≡ pos (number x.number) → ltb (number old.committed) (number x.number) ≡ true → Goes (did_push (pushed (offer_entry x) after)) Stored
   unfolding F.adds place heard_offer with_marks told
   goes_push e q = record {
     fate_same = refl;
@@ -235,7 +241,7 @@ module _ {X : Type 0} (o : GroupOrder X) (s : State X) (x : Offer X) (l : Like o
   unfolding entry_of
   entry_set = refl
 
-  pair_kept' : (z : ℤ) → x.set ≡ Some z → keep (λ h. replaced (entry_of x) h) s.held ≡ keep (λ h. is_pair_end (x.writer, x.reader) h) (keep (λ h. in_set x.group z h) s.held)
+  pair_kept' : (z : ℤ) → x.set ≡ Some z → filter (λ h. replaced (entry_of x) h) s.held ≡ filter (λ h. is_pair_end (x.writer, x.reader) h) (filter (λ h. in_set x.group z h) s.held)
   unfolding entry_of
   pair_kept' z a = pair_kept x.group z (entry_of x) s.held own_entry (entry_set ∙ a)
 
@@ -260,7 +266,7 @@ module _ {X : Type 0} (o : GroupOrder X) (s : State X) (x : Offer X) (l : Like o
   unfolding join
   join_sets z e t a b c =
       let q : or_default no_set (get numbers z after.sets) ≡ t = ap (λ u. or_default no_set u) c in
-      let k : OpenLike t (keep (λ h. in_set x.group z h) s.held) = open_of t (keep (λ h. in_set x.group z h) s.held) (get numbers z after.sets) c (own_after_lem.sets.at z) in
+      let k : OpenLike t (filter (λ h. in_set x.group z h) s.held) = open_of t (filter (λ h. in_set x.group z h) s.held) (get numbers z after.sets) c (own_after_lem.sets.at z) in
       let f = joined_mark x.group z (entry_of x) t s.held own_entry (entry_set ∙ a) k in
       let w = keep_end_sets t.end_committed (mark_of (find (λ h. replaced (entry_of x) h) s.held)) x.group z (entry_of x) e after.sets s.held own_entry (entry_set ∙ a) (what_of e b) f own_after_lem.sets in
       rw (joined_set z e t) (rw q at w)
@@ -291,20 +297,20 @@ module _ {X : Type 0} (o : GroupOrder X) (s : State X) (x : Offer X) (l : Like o
   join_flat m = refl
 
   new_end_lem : (z : ℤ) (t : OpenSet X) → x.set ≡ Some z → get numbers z old.sets ≡ Some t
-      → new_end (offer_entry x) old (offer_entry x).info.coherent_set_gsn ≡ not (any (λ h. replaced (entry_of x) h) s.held)
+      → new_end (offer_entry x) old (offer_entry x).info.coherent_set_gsn ≡ not (list_any (λ h. replaced (entry_of x) h) s.held)
   unfolding offer_entry old
   new_end_lem z t a c =
       ap (λ w. new_end (offer_entry x) old w) a
       ∙ ap (λ u. not (is_some (get pairs (x.writer, x.reader) (or_default no_set u).ends))) c
       ∙ ap not
-      (pair_there (get pairs (x.writer, x.reader) t.ends) (keep (λ h. is_pair_end (x.writer, x.reader) h) (keep (λ h. in_set x.group z h) s.held))
-      ((open_of t (keep (λ h. in_set x.group z h) s.held) (get numbers z old.sets) c ((l.each x.group).sets.at z)).ends (x.writer, x.reader))
+      (pair_there (get pairs (x.writer, x.reader) t.ends) (filter (λ h. is_pair_end (x.writer, x.reader) h) (filter (λ h. in_set x.group z h) s.held))
+      ((open_of t (filter (λ h. in_set x.group z h) s.held) (get numbers z old.sets) c ((l.each x.group).sets.at z)).ends (x.writer, x.reader))
       ∙ ap (λ k. is_some (first_of k)) (sym (pair_kept' z a))
       ∙ ap is_some (sym (find_keep (λ h. replaced (entry_of x) h) s.held))
       ∙ find_any (λ h. replaced (entry_of x) h) s.held)
 
   goes_join : (z : ℤ) (e : SetEnd) (t : OpenSet X) → x.set ≡ Some z → end_w x.what ≡ Some e → get numbers z after.sets ≡ Some t
-      → Goes (did_join (with_sets (insert numbers z (with_end x.writer x.reader e t) after.sets) after)) is_joined
+      → Goes (did_join (with_sets (insert numbers z (with_end x.writer x.reader e t) after.sets) after)) Joined
   unfolding F.adds place heard_offer with_marks told
   goes_join z e t a b c = record {
     fate_same = refl;
@@ -315,17 +321,17 @@ module _ {X : Type 0} (o : GroupOrder X) (s : State X) (x : Offer X) (l : Like o
 
   -- ---- the cases
 
-  no_share : x.set ≡ None → any (λ h. shares (entry_of x) h) s.held ≡ false
+  no_share : x.set ≡ None → list_any (λ h. shares (entry_of x) h) s.held ≡ false
   unfolding shares entry_of
   no_share e = any_empty (λ h. shares (entry_of x) h) (λ h. and_never (of_group x.group h) (same_set x.set h.set) (ap (λ t. same_set t h.set) e)) s.held
 
-  any_share : (z : ℤ) → x.set ≡ Some z → any (λ h. shares (entry_of x) h) s.held ≡ is_some (first_of (keep (λ h. in_set x.group z h) s.held))
+  any_share : (z : ℤ) → x.set ≡ Some z → list_any (λ h. shares (entry_of x) h) s.held ≡ is_some (first_of (filter (λ h. in_set x.group z h) s.held))
   any_share z e =
       sym (find_any (λ h. shares (entry_of x) h) s.held) ∙ ap is_some (find_keep (λ h. shares (entry_of x) h) s.held)
       ∙ ap (λ k. is_some (first_of k)) (keep_same (λ h. shares (entry_of x) h) (λ h. in_set x.group z h) (λ h. shares_in x.group z (entry_of x) h own_entry (entry_set ∙ e)) s.held)
 
-  is_open : (t : OpenSet X) (k : List (Entry X)) → any (λ h. true) k ≡ true → is_some (first_of k) ≡ true
-  unfolding any is_some
+  is_open : (t : OpenSet X) (k : List (Entry X)) → list_any (λ h. true) k ≡ true → is_some (first_of k) ≡ true
+  unfolding is_some
   is_open t [] e = e
   is_open t (h ∷ k) e = refl
 
@@ -337,14 +343,14 @@ module _ {X : Type 0} (o : GroupOrder X) (s : State X) (x : Offer X) (l : Like o
   goes_case z e a b None (_ ∷ _) c x7 = elim x7 [ ]
 
   goes_set : (z : ℤ) (e : SetEnd) → x.set ≡ Some z → end_w x.what ≡ Some e
-      → Goes (join_or x.writer x.reader e z after (get numbers z after.sets)) (fate false (any (λ h. shares (entry_of x) h) s.held))
-  goes_set z e a b = rw (any_share z a) (goes_case z e a b (get numbers z after.sets) (keep (λ h. in_set x.group z h) s.held) refl (own_after_lem.sets.at z))
+      → Goes (join_or x.writer x.reader e z after (get numbers z after.sets)) (fate false (list_any (λ h. shares (entry_of x) h) s.held))
+  goes_set z e a b = rw (any_share z a) (goes_case z e a b (get numbers z after.sets) (filter (λ h. in_set x.group z h) s.held) refl (own_after_lem.sets.at z))
 
-  goes_below : (w : What X) (t : Option ℤ) → x.what ≡ w → x.set ≡ t → Goes (joins (offer_entry x) after (end_w w) t) (fate false (not (is_sample_w w) && any (λ h. shares (entry_of x) h) s.held))
+  goes_below : (w : What X) (t : Option ℤ) → x.what ≡ w → x.set ≡ t → Goes (joins (offer_entry x) after (end_w w) t) (fate false (not (is_sample_w w) && list_any (λ h. shares (entry_of x) h) s.held))
   unfolding offer_entry
-  goes_below (sample i) t a b = goes_late
-  goes_below (set_end f g) None a b = rw (no_share b) goes_late
-  goes_below (set_end f g) (Some z) a b = goes_set z (record { first_sn = f; ecs_sn = g }) b (ap (λ w. end_w w) a)
+  goes_below (Sample i) t a b = goes_late
+  goes_below (End u) None a b = rw (no_share b) goes_late
+  goes_below (End u) (Some z) a b = goes_set z (record { first_sn = u.first; ecs_sn = u.own }) b (ap (λ w. end_w w) a)
 
   after_committed : after.committed ≡ old.committed
   unfolding after with_writer
@@ -364,7 +370,7 @@ module _ {X : Type 0} (o : GroupOrder X) (s : State X) (x : Offer X) (l : Like o
 
   goes_which : (t : Bool) → ltb (number old.committed) (number x.number) ≡ t
       → Goes (cond (not t) (joins (offer_entry x) after (offer_entry x).at_end (offer_entry x).info.coherent_set_gsn) (did_push (pushed (offer_entry x) after)))
-      (fate t (not (is_sample_w x.what) && any (λ h. shares (entry_of x) h) s.held))
+      (fate t (not (is_sample_w x.what) && list_any (λ h. shares (entry_of x) h) s.held))
   unfolding offer_entry
   goes_which true e = goes_push (above_whole x.number (number old.committed) e) e
   goes_which false e = goes_below x.what x.set refl refl
@@ -372,7 +378,7 @@ module _ {X : Type 0} (o : GroupOrder X) (s : State X) (x : Offer X) (l : Like o
   pub offer_goes : Goes (offer_to (offer_entry x) after) (F.fate_of s x)
   unfolding offer_to F.fate_of
   offer_goes =
-      let j : Bool = not (is_sample_w x.what) && any (λ h. shares (entry_of x) h) s.held in
+      let j : Bool = not (is_sample_w x.what) && list_any (λ h. shares (entry_of x) h) s.held in
       let a : Did X = joins (offer_entry x) after (offer_entry x).at_end (offer_entry x).info.coherent_set_gsn in
       let b : Did X = did_push (pushed (offer_entry x) after) in
       let t : Bool = ltb (number old.committed) (number x.number) in

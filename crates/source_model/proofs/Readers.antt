@@ -8,12 +8,17 @@ use native.Mathlib.Omega.{arith}
 use lib.Dec.{ltb, leb, eqb}
 use lib.ListN.{length}
 use borrow.Author.Tests.{ltb-true, ltb-false, leb-true, le-leb, ne_eqb}
-use Rattle.laws.specs.Lists.{all, any, count}
-use Rattle.rules.specs.Entry.{Entry, is_sample}
-use Rattle.rules.specs.State.{State, Group, fresh}
+use Rattle.laws.specs.Lists.{list_all, list_any, count}
+use Rattle.rules.specs.Entry.{is_sample}
+use Rattle.rules.specs.declared.entry.Entry.{Entry}
+use Rattle.rules.specs.State.{State, fresh}
+use Rattle.rules.specs.declared.state.Group.{Group}
 use Rattle.rules.specs.State as St
 use Rattle.rules.specs.Commit.{Turn}
-use Rattle.rules.specs.Offer.{Offer, Fate, is_stored, is_joined, is_late, ninth, pair33, adds, entry_of, marked, fate_of, offer_refusal, place, heard_offer, offered, offer, with_marks}
+use Rattle.rules.specs.Offer.{ninth, pair33, adds, entry_of, marked, fate_of, offer_refusal, place, heard_offer, offered, offer, with_marks}
+use Rattle.rules.specs.declared.call.Offer.{Offer}
+use Rattle.rules.specs.declared.call.Fate.{Fate}
+use Rattle.rules.specs.declared.call.Fate.TheVariants.{Stored, Joined, Late}
 use Rattle.rules.specs.Release.{View, turn_of, work_of, back_to, released, release_refusal, released_if, release}
 use Rattle.rules.specs.Run.{Call, offers, heartbeats, gaps, releases, step, waiting}
 use Rattle.laws.proofs.Lists.{all_snoc, all_yes, and_left, and_right, count_none}
@@ -31,8 +36,8 @@ module _ {X : Type 0} where
   small e = leb e.reader 7
 
 pub record Readers {X : Type 0} (s : State X) : Type 0 where
-  pub pending : all (λ e. small e) s.pending ≡ true
-  pub held : all (λ e. small e) s.held ≡ true
+  pub pending : list_all (λ e. small e) s.pending ≡ true
+  pub held : list_all (λ e. small e) s.held ≡ true
 
 module _ {X : Type 0} where
   blind : (m : Option ℕ) (e : Entry X) → small (marked m e) ≡ small e
@@ -45,9 +50,9 @@ module _ {X : Type 0} where
 
   placed : (k : Fate) (o : Offer X) (s : State X) → ltb 7 o.reader ≡ false → Readers s → Readers (place k (entry_of o) (heard_offer o s))
   unfolding place heard_offer with_marks
-  placed is_stored o s e r = record { pending = all_snoc (λ e. small e) s.pending (entry_of o) r.pending (own o e); held = r.held }
-  placed is_joined o s e r = record { pending = r.pending; held = join_all (λ e. small e) (λ m e. blind m e) (entry_of o) s.held (own o e) r.held }
-  placed is_late o s e r = record { pending = r.pending; held = r.held }
+  placed Stored o s e r = record { pending = all_snoc (λ e. small e) s.pending (entry_of o) r.pending (own o e); held = r.held }
+  placed Joined o s e r = record { pending = r.pending; held = join_all (λ e. small e) (λ m e. blind m e) (entry_of o) s.held (own o e) r.held }
+  placed Late o s e r = record { pending = r.pending; held = r.held }
 
   offer_readers : (u : Option ℕ) (s : State X) (o : Offer X) → offer_refusal s o ≡ u → Readers s → Readers (offered u s o).1
   unfolding offer_refusal
@@ -68,12 +73,12 @@ module _ {X : Type 0} where
   pub step_readers : (s : State X) (c : Call X) → Readers s → Readers (step s c).1
   unfolding step offer release
   step_readers s (offers o) r = offer_readers (offer_refusal s o) s o refl r
-  step_readers s (heartbeats h) r = let q = heartbeat_same s h in record { pending = ap (λ l. all (λ e. small e) l) q.pending ∙ r.pending; held = ap (λ l. all (λ e. small e) l) q.held ∙ r.held }
-  step_readers s (gaps g) r = let q = gap_same s g in record { pending = ap (λ l. all (λ e. small e) l) q.pending ∙ r.pending; held = ap (λ l. all (λ e. small e) l) q.held ∙ r.held }
+  step_readers s (heartbeats h) r = let q = heartbeat_same s h in record { pending = ap (λ l. list_all (λ e. small e) l) q.pending ∙ r.pending; held = ap (λ l. list_all (λ e. small e) l) q.held ∙ r.held }
+  step_readers s (gaps g) r = let q = gap_same s g in record { pending = ap (λ l. list_all (λ e. small e) l) q.pending ∙ r.pending; held = ap (λ l. list_all (λ e. small e) l) q.held ∙ r.held }
   step_readers s (releases now v l) r = release_readers (release_refusal s v (length l)) s v now r
 
-  none_large : (n : ℕ) (l : List (Entry X)) → ltb 7 n ≡ true → all (λ e. small e) l ≡ true → any (λ e. is_sample e && eqb n e.reader) l ≡ false
-  unfolding all any small
+  none_large : (n : ℕ) (l : List (Entry X)) → ltb 7 n ≡ true → list_all (λ e. small e) l ≡ true → list_any (λ e. is_sample e && eqb n e.reader) l ≡ false
+  unfolding small
   none_large n [] h a = refl
   none_large n (e ∷ l) h a =
       let x = ltb-true 7 n h in
@@ -93,5 +98,5 @@ module _ {X : Type 0} where
       ]) refl
 
 pub fresh_readers : {X : Type 0} (t : ℕ) → Readers {X = X} (fresh t)
-unfolding fresh all
+unfolding fresh
 fresh_readers t = record { pending = refl; held = refl }

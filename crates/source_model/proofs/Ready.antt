@@ -10,10 +10,13 @@ use lib.Signed.{lt_z, le_z}
 use lib.Dec.{ltb, leb, eqb}
 use borrow.Author.Tests.{ltb-true, le-ltb, leb-true, ne_eqb}
 use Rattle.laws.specs.Whole.{eq_z}
-use Rattle.laws.specs.Lists.{keep, all, any, count, find, is_some}
+use Rattle.laws.specs.Lists.{filter, list_all, list_any, count, find, is_some}
 use Rattle.guids.specs.Guid.{Guid, same_guid}
-use Rattle.rules.specs.Entry.{Entry, of_group}
-use Rattle.rules.specs.State.{Group, Writer, is_writer, writer_of}
+use Rattle.rules.specs.Entry.{of_group}
+use Rattle.rules.specs.declared.entry.Entry.{Entry}
+use Rattle.rules.specs.State.{is_writer, writer_of}
+use Rattle.rules.specs.declared.state.Group.{Group}
+use Rattle.rules.specs.declared.state.Writer.{Writer}
 use Rattle.rules.specs.Marks.{past_of}
 use Rattle.rules.specs.Commit.{Turn, accepted, secure_accepted, digests_accepted, all_from, pair_past, ruled_out, is_head, head_of, next, copies_arrived, ready}
 use Rattle.rules.specs.Release.{View, turn_of}
@@ -34,7 +37,6 @@ use Rattle.source_model.proofs.Found.{key_of, passes_none, passes_own, passes_le
 -- ---- the next number
 
 first_find : {A : Type 0} (m : List A) → first_of m ≡ find (λ x. true) m
-unfolding find
 first_find [] = refl
 first_find (a ∷ m) = refl
 
@@ -49,9 +51,9 @@ vec_some f [] = refl
 vec_some f (a ∷ l) = refl
 
 module _ {X : Type 0} where
-  pending_there : (g : Guid) (m : List (ℤ × List (S.Entry X))) (l : List (Entry X)) → PendingLike g m l → (n : ℤ) → is_some_and (λ v. true) (get numbers n m) ≡ any (λ e. is_at g n e) l
+  pending_there : (g : Guid) (m : List (ℤ × List (S.Entry X))) (l : List (Entry X)) → PendingLike g m l → (n : ℤ) → is_some_and (λ v. true) (get numbers n m) ≡ list_any (λ e. is_at g n e) l
   pending_there g m l k n =
-      sym (is_some_lem (get numbers n m)) ∙ ap is_some (k.at n) ∙ vec_some (λ e. as_entry e) (keep (λ e. is_at g n e) l) ∙ ap is_some (sym (find_keep (λ e. is_at g n e) l)) ∙ find_any (λ e. is_at g n e) l
+      sym (is_some_lem (get numbers n m)) ∙ ap is_some (k.at n) ∙ vec_some (λ e. as_entry e) (filter (λ e. is_at g n e) l) ∙ ap is_some (sym (find_keep (λ e. is_at g n e) l)) ∙ find_any (λ e. is_at g n e) l
 
   at_group_lem : (g : Guid) (n : ℤ) (e : Entry X) → is_at g n e ≡ true → of_group g e ≡ true
   unfolding is_at
@@ -67,17 +69,17 @@ module _ {X : Type 0} where
       ap (λ y. lt_z y (pos n)) (eq_z_eq x (pos e.number) (and_right (of_group g e) _ h))
       ∙ le-ltb e.number n (leb-true n e.number (sym (ap (λ b. not b || leb n e.number) (and_left (of_group g e) _ h)) ∙ k))
 
-  pub head_any : (t : Turn) (n : ℕ) (l : List (Entry X)) → any (λ e. is_head t n e) l ≡ true → any (λ e. is_at t.guid (pos n) e) l ≡ true
+  pub head_any : (t : Turn) (n : ℕ) (l : List (Entry X)) → list_any (λ e. is_head t n e) l ≡ true → list_any (λ e. is_at t.guid (pos n) e) l ≡ true
   head_any t n l h = any_imp (λ e. is_head t n e) (λ e. is_at t.guid (pos n) e) (λ e k. sym (head_at t n e) ∙ k) l h
 
   next_both : (t : Turn) (m : List (ℤ × List (S.Entry X))) (l : List (Entry X)) → PendingLike t.guid m l
       → (u : Option (ℤ × List (S.Entry X))) (w : Option ℕ) → find (λ x. true) m ≡ u → next t l ≡ w → key_of u ≡ map_o pos w
   unfolding numbers
   next_both t m l k None None c d = refl
-  next_both t m l k None (Some n) c d = not_both (any (λ e. is_at t.guid (pos n) e) l) (head_any t n l (next_head t l n d)) (sym (pending_there t.guid m l k (pos n)) ∙ passes_none numbers_lawful (λ x. true) m c (pos n))
+  next_both t m l k None (Some n) c d = not_both (list_any (λ e. is_at t.guid (pos n) e) l) (head_any t n l (next_head t l n d)) (sym (pending_there t.guid m l k (pos n)) ∙ passes_none numbers_lawful (λ x. true) m c (pos n))
   next_both t m l k (Some x) None c d =
       let o = passes_own numbers_lawful (λ x. true) m x k.ascend c in
-      not_both (any (λ e. of_group t.guid e) l) (any_imp (λ e. is_at t.guid x.0 e) (λ e. of_group t.guid e) (λ e h. at_group_lem t.guid x.0 e h) l (sym (pending_there t.guid m l k x.0) ∙ ap (λ u. is_some_and (λ v. true) u) o.0)) (next_none t l d)
+      not_both (list_any (λ e. of_group t.guid e) l) (any_imp (λ e. is_at t.guid x.0 e) (λ e. of_group t.guid e) (λ e h. at_group_lem t.guid x.0 e h) l (sym (pending_there t.guid m l k x.0) ∙ ap (λ u. is_some_and (λ v. true) u) o.0)) (next_none t l d)
   next_both t m l k (Some x) (Some n) c d =
       let o = passes_own numbers_lawful (λ x. true) m x k.ascend c in
       ap Some (eq_below x.0 (pos n)
@@ -91,7 +93,7 @@ module _ {X : Type 0} where
   pub head_found : (t : Turn) (n : ℕ) (m : List (ℤ × List (S.Entry X))) (l : List (Entry X)) → PendingLike t.guid m l → or_default [] (get numbers (pos n) m) ≡ map (λ e. as_entry e) (head_of t n l)
   unfolding head_of
   head_found t n m l k =
-      ap (λ u. or_default [] u) (k.at (pos n)) ∙ vec_back (map (λ e. as_entry e) (keep (λ e. is_at t.guid (pos n) e) l))
+      ap (λ u. or_default [] u) (k.at (pos n)) ∙ vec_back (map (λ e. as_entry e) (filter (λ e. is_at t.guid (pos n) e) l))
       ∙ ap (λ r. map (λ e. as_entry e) r) (keep_same (λ e. is_at t.guid (pos n) e) (λ e. is_head t n e) (λ e. sym (head_at t n e)) l)
 
 -- ---- counted pairs
@@ -107,32 +109,31 @@ module _ {K : Type 0} {o : Order K} (lo : Lawful o) (p : K → Bool) where
   and_swap false true c = refl
   and_swap false false c = refl
 
-  all_put : (k : K) (l : List K) → all p (put o k l) ≡ p k && all p l
-  unfolding put all
+  all_put : (k : K) (l : List K) → list_all p (put o k l) ≡ p k && list_all p l
+  unfolding put
   all_put k [] = refl
   all_put k (x ∷ l) =
-      (elim (o.same k x) as (λ t. o.same k x ≡ t → all p (cond t (x ∷ l) (cond (o.less k x) (k ∷ x ∷ l) (x ∷ put o k l))) ≡ p k && (p x && all p l)) [
-        | true ↦ λ e. rw (lo.same_is k x e) (and_same (p x) (all p l))
-        | false ↦ λ e. elim (o.less k x) as (λ t. all p (cond t (k ∷ x ∷ l) (x ∷ put o k l)) ≡ p k && (p x && all p l)) [ true ↦ refl | false ↦ ap (λ b. p x && b) (all_put k l) ∙ and_swap (p x) (p k) (all p l) ]
+      (elim (o.same k x) as (λ t. o.same k x ≡ t → list_all p (cond t (x ∷ l) (cond (o.less k x) (k ∷ x ∷ l) (x ∷ put o k l))) ≡ p k && (p x && list_all p l)) [
+        | true ↦ λ e. rw (lo.same_is k x e) (and_same (p x) (list_all p l))
+        | false ↦ λ e. elim (o.less k x) as (λ t. list_all p (cond t (k ∷ x ∷ l) (x ∷ put o k l)) ≡ p k && (p x && list_all p l)) [ true ↦ refl | false ↦ ap (λ b. p x && b) (all_put k l) ∙ and_swap (p x) (p k) (list_all p l) ]
       ]) refl
 
-  pub all_collect : (l : List K) → all p (collect o l) ≡ all p l
-  unfolding collect all
+  pub all_collect : (l : List K) → list_all p (collect o l) ≡ list_all p l
+  unfolding collect
   all_collect [] = refl
   all_collect (k ∷ l) = all_put k (collect o l) ∙ ap (λ b. p k && b) (all_collect l)
 
-pub counted_all : (v : View) (g : Guid) (p : Guid × ℕ → Bool) → all p ((view_of v).counted g) ≡ all (λ x. p (x.writer, x.reader)) (keep (λ x. same_guid g x.group) v.counted)
+pub counted_all : (v : View) (g : Guid) (p : Guid × ℕ → Bool) → list_all p ((view_of v).counted g) ≡ list_all (λ x. p (x.writer, x.reader)) (filter (λ x. same_guid g x.group) v.counted)
 unfolding view_of
 counted_all v g p =
-    all_collect pairs_lawful p (map (λ x. (x.writer, x.reader)) (keep (λ x. same_guid g x.group) v.counted))
-    ∙ all_map p (λ x. (x.writer, x.reader)) (keep (λ x. same_guid g x.group) v.counted)
+    all_collect pairs_lawful p (map (λ x. (x.writer, x.reader)) (filter (λ x. same_guid g x.group) v.counted))
+    ∙ all_map p (λ x. (x.writer, x.reader)) (filter (λ x. same_guid g x.group) v.counted)
 
 -- ---- what is past
 
-pub find_keep_w : (p : Writer → Bool) (l : List Writer) → find p l ≡ first_of (keep p l)
-unfolding find keep
+pub find_keep_w : (p : Writer → Bool) (l : List Writer) → find p l ≡ first_of (filter p l)
 find_keep_w p [] = refl
-find_keep_w p (a ∷ l) = elim (p a) as (λ t. cond t (Some a) (find p l) ≡ first_of (cond t (a ∷ keep p l) (keep p l))) [ true ↦ refl | false ↦ find_keep_w p l ]
+find_keep_w p (a ∷ l) = elim (p a) as (λ t. cond t (Some a) (find p l) ≡ first_of (cond t (a ∷ filter p l) (filter p l))) [ true ↦ refl | false ↦ find_keep_w p l ]
 
 past_case : (r n : ℕ) (u : Option Progress) (l : List Writer) → WriterLike u l → is_some_and (λ p. is_past p r (pos (suc n))) u ≡ past_of (first_of l) r (suc n)
 unfolding past_of
@@ -144,7 +145,7 @@ past_case r n (Some p) (w ∷ (_ ∷ _)) x8 = elim x8 [ ]
 
 pub past_of_lem : (g w : Guid) (r n : ℕ) (m : List (Guid × Progress)) (ws : List Writer) → WritersLike g m ws → is_some_and (λ p. is_past p r (pos (suc n))) (get guids w m) ≡ past_of (writer_of g w ws) r (suc n)
 unfolding writer_of
-past_of_lem g w r n m ws k = past_case r n (get guids w m) (keep (λ x. is_writer g w x) ws) (k.at w) ∙ ap (λ o. past_of o r (suc n)) (sym (find_keep_w (λ x. is_writer g w x) ws))
+past_of_lem g w r n m ws k = past_case r n (get guids w m) (filter (λ x. is_writer g w x) ws) (k.at w) ∙ ap (λ o. past_of o r (suc n)) (sym (find_keep_w (λ x. is_writer g w x) ws))
 
 -- ---- digests
 
@@ -164,26 +165,23 @@ both true false c = refl
 both false a c = refl
 
 module _ {A : Type 0} where
-  pub all_ext : (p q : A → Bool) → ((a : A) → p a ≡ q a) → (l : List A) → all p l ≡ all q l
-  unfolding all
+  pub all_ext : (p q : A → Bool) → ((a : A) → p a ≡ q a) → (l : List A) → list_all p l ≡ list_all q l
   all_ext p q h [] = refl
   all_ext p q h (a ∷ l) = rw (h a, all_ext p q h l)
 
-  pub all_two : (p q : A → Bool) (l : List A) → all (λ a. p a && q a) l ≡ all p l && all q l
-  unfolding all
+  pub all_two : (p q : A → Bool) (l : List A) → list_all (λ a. p a && q a) l ≡ list_all p l && list_all q l
   all_two p q [] = refl
-  all_two p q (a ∷ l) = ap (λ b. (p a && q a) && b) (all_two p q l) ∙ four (p a) (q a) (all p l) (all q l)
+  all_two p q (a ∷ l) = ap (λ b. (p a && q a) && b) (all_two p q l) ∙ four (p a) (q a) (list_all p l) (list_all q l)
 
-  all_zero : (b : A → Bool) (l : List A) → all (λ x. not (b x)) l ≡ eqb (count b l) 0
-  unfolding all
+  all_zero : (b : A → Bool) (l : List A) → list_all (λ x. not (b x)) l ≡ eqb (count b l) 0
   all_zero b [] = sym (ap (λ n. eqb n 0) (count_nil b))
   all_zero b (a ∷ l) =
       ap (λ r. not (b a) && r) (all_zero b l)
       ∙ (elim (b a) as (λ t. not t && eqb (count b l) 0 ≡ eqb (cond t 1 0 + count b l) 0) [ true ↦ sym (ne_eqb (1 + count b l) 0 (λ q. omega (arith, q))) | false ↦ ap (λ n. eqb n 0) (let e : count b l ≡ 0 + count b l = omega arith in e) ])
       ∙ ap (λ n. eqb n 0) (sym (count_cons b a l))
 
-  sum_zero : (b : A → Bool) (l : List A) → all (λ x. not (b x)) l ≡ eqb (sum_of (λ x. cond (b x) 1 0) l) 0
-  unfolding all sum_of
+  sum_zero : (b : A → Bool) (l : List A) → list_all (λ x. not (b x)) l ≡ eqb (sum_of (λ x. cond (b x) 1 0) l) 0
+  unfolding sum_of
   sum_zero b [] = refl
   sum_zero b (a ∷ l) =
       ap (λ r. not (b a) && r) (sum_zero b l)
@@ -205,8 +203,8 @@ module _ (g : Guid) (ok : Option ℕ → Bool) (fm : Progress → Option ℕ) (f
   bad : Writer → Bool
   bad x = same_guid g x.group && not (ok (ff x))
 
-  bad_one : (w : Guid) (u : Option Progress) (l : List Writer) → WriterLike u l → all (λ x. is_writer g w x) l ≡ true → count (λ x. bad x) l ≡ len_o (λ p. cond (not (ok (fm p))) 1 0) u
-  unfolding all bad
+  bad_one : (w : Guid) (u : Option Progress) (l : List Writer) → WriterLike u l → list_all (λ x. is_writer g w x) l ≡ true → count (λ x. bad x) l ≡ len_o (λ p. cond (not (ok (fm p))) 1 0) u
+  unfolding bad
   bad_one w None [] unknown e = count_nil (λ x. bad x)
   bad_one w (Some p) (x ∷ []) (known k) e =
       count_one (λ x. bad x) x ∙ ap (λ b. cond (b && not (ok (ff x))) 1 0) (group_of g w x (and_left (is_writer g w x) _ e)) ∙ ap (λ o. cond (not (ok o)) 1 0) (sym (same p x k))
@@ -214,13 +212,13 @@ module _ (g : Guid) (ok : Option ℕ → Bool) (fm : Progress → Option ℕ) (f
   bad_one w (Some p) [] x4 e = elim x4 [ ]
   bad_one w (Some p) (x ∷ (_ ∷ _)) x10 e = elim x10 [ ]
 
-  all_digests : (m : List (Guid × Progress)) (ws : List Writer) → WritersLike g m ws → all (λ x. ok (fm x.1)) m ≡ all (λ x. not (same_guid g x.group && not (ok (ff x)))) ws
+  all_digests : (m : List (Guid × Progress)) (ws : List Writer) → WritersLike g m ws → list_all (λ x. ok (fm x.1)) m ≡ list_all (λ x. not (same_guid g x.group && not (ok (ff x)))) ws
   unfolding bad guids
   all_digests m ws k =
       all_ext (λ x. ok (fm x.1)) (λ x. not (not (ok (fm x.1)))) (λ x. twice (ok (fm x.1))) m
       ∙ sum_zero (λ x. not (ok (fm x.1))) m
       ∙ ap (λ n. eqb n 0) (sym (count_over guids_lawful (λ w x. is_writer g w x) (λ x. x.writer) (λ x. bad x) (λ p. cond (not (ok (fm p))) 1 0) (λ x e. own_of g x (and_left (same_guid g x.group) _ e)) (λ k j x a b. once_writer g k j x a b) m ws k.ascend
-      (λ w. bad_one w (get guids w m) (keep (λ x. is_writer g w x) ws) (k.at w) (all_kept (λ x. is_writer g w x) ws))))
+      (λ w. bad_one w (get guids w m) (filter (λ x. is_writer g w x) ws) (k.at w) (all_kept (λ x. is_writer g w x) ws))))
       ∙ sym (all_zero (λ x. bad x) ws)
 
 some_accepted : (g : Guid) (v : View) (o : Option ℕ) → not (is_some_and (λ d. not ((view_of v).writer_set_is_discovered g d)) o) ≡ accepted g v.digests o
@@ -270,12 +268,12 @@ module _ {X : Type 0} (v : View) (now timeout : ℕ) (ws : List Writer) (G : Gro
   unfolding pair_past turn_of
   pair_past_lem w r n = past_of_lem G.guid w r n m.writers ws k
 
-  all_past : (n : ℕ) → all (λ c. is_some_and (λ p. is_past p c.1 (pos (suc n))) (get guids c.0 m.writers)) ((view_of v).counted G.guid)
-      ≡ all (λ p. pair_past (turn_of v now timeout ws G) p.writer p.reader (suc n)) (turn_of v now timeout ws G).counted
+  all_past : (n : ℕ) → list_all (λ c. is_some_and (λ p. is_past p c.1 (pos (suc n))) (get guids c.0 m.writers)) ((view_of v).counted G.guid)
+      ≡ list_all (λ p. pair_past (turn_of v now timeout ws G) p.writer p.reader (suc n)) (turn_of v now timeout ws G).counted
   unfolding turn_of
   all_past n =
       counted_all v G.guid (λ c. is_some_and (λ p. is_past p c.1 (pos (suc n))) (get guids c.0 m.writers))
-      ∙ all_ext (λ x. is_some_and (λ p. is_past p x.reader (pos (suc n))) (get guids x.writer m.writers)) (λ p. pair_past (turn_of v now timeout ws G) p.writer p.reader (suc n)) (λ x. pair_past_lem x.writer x.reader n) (keep (λ x. same_guid G.guid x.group) v.counted)
+      ∙ all_ext (λ x. is_some_and (λ p. is_past p x.reader (pos (suc n))) (get guids x.writer m.writers)) (λ p. pair_past (turn_of v now timeout ws G) p.writer p.reader (suc n)) (λ x. pair_past_lem x.writer x.reader n) (filter (λ x. same_guid G.guid x.group) v.counted)
 
   announced_to : (turn_of v now timeout ws G).announced ≡ G.announced
   unfolding turn_of
@@ -285,8 +283,8 @@ module _ {X : Type 0} (v : View) (now timeout : ℕ) (ws : List Writer) (G : Gro
   unfolding passable ruled_out
   passable_alike c n a =
       let t : Turn = turn_of v now timeout ws G in
-      let p : ℤ → Bool = λ gsn. all (λ c. is_some_and (λ p. is_past p c.1 gsn) (get guids c.0 m.writers)) ((view_of v).counted G.guid) in
-      let q : ℕ → Bool = λ n. all (λ p. pair_past t p.writer p.reader n) t.counted in
+      let p : ℤ → Bool = λ gsn. list_all (λ c. is_some_and (λ p. is_past p c.1 gsn) (get guids c.0 m.writers)) ((view_of v).counted G.guid) in
+      let q : ℕ → Bool = λ n. list_all (λ p. pair_past t p.writer p.reader n) t.counted in
       ap (λ g. le_z (pos n) g && set_known G.guid m (view_of v) && walk (pos (suc c)) (as_u64 (pos n -ℤ pos (suc c))) p) a
       ∙ ap (λ b. leb n G.announced && b && walk (pos (suc c)) (as_u64 (pos n -ℤ pos (suc c))) p) (known_alike v now timeout ws G m k)
       ∙ ap (λ j. leb n G.announced && digests_accepted t && walk (pos (suc c)) j p) (missing_many n c)
@@ -301,33 +299,33 @@ module _ {X : Type 0} (v : View) (now timeout : ℕ) (ws : List Writer) (G : Gro
   unfolding as_entry
   as_writer e = refl
 
-  any_reader : (r : ℕ) (l : List (Entry X)) → any (λ other. eqb r other.reader) (map (λ e. as_entry e) l) ≡ any (λ o. eqb r o.reader) l
+  any_reader : (r : ℕ) (l : List (Entry X)) → list_any (λ other. eqb r other.reader) (map (λ e. as_entry e) l) ≡ list_any (λ o. eqb r o.reader) l
   unfolding as_entry
   any_reader r l = any_map (λ other. eqb r other.reader) (λ e. as_entry e) l
 
   entry_copies : (n : ℕ) (l : List (Entry X)) (e : Entry X)
-      → all (λ c. not (same_guid (as_entry e).writer c.0) || any (λ other. eqb c.1 other.reader) (map (λ e. as_entry e) l) || is_some_and (λ p. is_past p c.1 (pos (suc n))) (get guids c.0 m.writers)) ((view_of v).counted G.guid)
-      ≡ all (λ p. not (same_guid e.writer p.writer) || any (λ o. eqb p.reader o.reader) l || pair_past (turn_of v now timeout ws G) p.writer p.reader (suc n)) (turn_of v now timeout ws G).counted
+      → list_all (λ c. not (same_guid (as_entry e).writer c.0) || list_any (λ other. eqb c.1 other.reader) (map (λ e. as_entry e) l) || is_some_and (λ p. is_past p c.1 (pos (suc n))) (get guids c.0 m.writers)) ((view_of v).counted G.guid)
+      ≡ list_all (λ p. not (same_guid e.writer p.writer) || list_any (λ o. eqb p.reader o.reader) l || pair_past (turn_of v now timeout ws G) p.writer p.reader (suc n)) (turn_of v now timeout ws G).counted
   unfolding turn_of
   entry_copies n l e =
-      counted_all v G.guid (λ c. not (same_guid (as_entry e).writer c.0) || any (λ other. eqb c.1 other.reader) (map (λ e. as_entry e) l) || is_some_and (λ p. is_past p c.1 (pos (suc n))) (get guids c.0 m.writers))
-      ∙ all_ext (λ x. not (same_guid (as_entry e).writer x.writer) || any (λ other. eqb x.reader other.reader) (map (λ e. as_entry e) l) || is_some_and (λ p. is_past p x.reader (pos (suc n))) (get guids x.writer m.writers))
-      (λ p. not (same_guid e.writer p.writer) || any (λ o. eqb p.reader o.reader) l || pair_past (turn_of v now timeout ws G) p.writer p.reader (suc n))
-      (λ x. ap (λ w. not (same_guid w x.writer) || any (λ other. eqb x.reader other.reader) (map (λ e. as_entry e) l) || is_some_and (λ p. is_past p x.reader (pos (suc n))) (get guids x.writer m.writers)) (as_writer e)
+      counted_all v G.guid (λ c. not (same_guid (as_entry e).writer c.0) || list_any (λ other. eqb c.1 other.reader) (map (λ e. as_entry e) l) || is_some_and (λ p. is_past p c.1 (pos (suc n))) (get guids c.0 m.writers))
+      ∙ all_ext (λ x. not (same_guid (as_entry e).writer x.writer) || list_any (λ other. eqb x.reader other.reader) (map (λ e. as_entry e) l) || is_some_and (λ p. is_past p x.reader (pos (suc n))) (get guids x.writer m.writers))
+      (λ p. not (same_guid e.writer p.writer) || list_any (λ o. eqb p.reader o.reader) l || pair_past (turn_of v now timeout ws G) p.writer p.reader (suc n))
+      (λ x. ap (λ w. not (same_guid w x.writer) || list_any (λ other. eqb x.reader other.reader) (map (λ e. as_entry e) l) || is_some_and (λ p. is_past p x.reader (pos (suc n))) (get guids x.writer m.writers)) (as_writer e)
       ∙ ap (λ b. not (same_guid e.writer x.writer) || b || is_some_and (λ p. is_past p x.reader (pos (suc n))) (get guids x.writer m.writers)) (any_reader x.reader l)
-      ∙ ap (λ b. not (same_guid e.writer x.writer) || any (λ o. eqb x.reader o.reader) l || b) (pair_past_lem x.writer x.reader n))
-      (keep (λ x. same_guid G.guid x.group) v.counted)
+      ∙ ap (λ b. not (same_guid e.writer x.writer) || list_any (λ o. eqb x.reader o.reader) l || b) (pair_past_lem x.writer x.reader n))
+      (filter (λ x. same_guid G.guid x.group) v.counted)
 
   all_copies : (n : ℕ) (l r : List (Entry X))
-      → all (λ e. all (λ c. not (same_guid e.writer c.0) || any (λ other. eqb c.1 other.reader) (map (λ e. as_entry e) l) || is_some_and (λ p. is_past p c.1 (pos (suc n))) (get guids c.0 m.writers)) ((view_of v).counted G.guid)) (map (λ e. as_entry e) r)
-      ≡ all (λ e. all (λ p. not (same_guid e.writer p.writer) || any (λ o. eqb p.reader o.reader) l || pair_past (turn_of v now timeout ws G) p.writer p.reader (suc n)) (turn_of v now timeout ws G).counted) r
+      → list_all (λ e. list_all (λ c. not (same_guid e.writer c.0) || list_any (λ other. eqb c.1 other.reader) (map (λ e. as_entry e) l) || is_some_and (λ p. is_past p c.1 (pos (suc n))) (get guids c.0 m.writers)) ((view_of v).counted G.guid)) (map (λ e. as_entry e) r)
+      ≡ list_all (λ e. list_all (λ p. not (same_guid e.writer p.writer) || list_any (λ o. eqb p.reader o.reader) l || pair_past (turn_of v now timeout ws G) p.writer p.reader (suc n)) (turn_of v now timeout ws G).counted) r
   all_copies n l r =
-      all_map (λ e. all (λ c. not (same_guid e.writer c.0) || any (λ other. eqb c.1 other.reader) (map (λ e. as_entry e) l) || is_some_and (λ p. is_past p c.1 (pos (suc n))) (get guids c.0 m.writers)) ((view_of v).counted G.guid)) (λ e. as_entry e) r
-      ∙ all_ext (λ e. all (λ c. not (same_guid (as_entry e).writer c.0) || any (λ other. eqb c.1 other.reader) (map (λ e. as_entry e) l) || is_some_and (λ p. is_past p c.1 (pos (suc n))) (get guids c.0 m.writers)) ((view_of v).counted G.guid))
-      (λ e. all (λ p. not (same_guid e.writer p.writer) || any (λ o. eqb p.reader o.reader) l || pair_past (turn_of v now timeout ws G) p.writer p.reader (suc n)) (turn_of v now timeout ws G).counted) (λ e. entry_copies n l e) r
+      all_map (λ e. list_all (λ c. not (same_guid e.writer c.0) || list_any (λ other. eqb c.1 other.reader) (map (λ e. as_entry e) l) || is_some_and (λ p. is_past p c.1 (pos (suc n))) (get guids c.0 m.writers)) ((view_of v).counted G.guid)) (λ e. as_entry e) r
+      ∙ all_ext (λ e. list_all (λ c. not (same_guid (as_entry e).writer c.0) || list_any (λ other. eqb c.1 other.reader) (map (λ e. as_entry e) l) || is_some_and (λ p. is_past p c.1 (pos (suc n))) (get guids c.0 m.writers)) ((view_of v).counted G.guid))
+      (λ e. list_all (λ p. not (same_guid e.writer p.writer) || list_any (λ o. eqb p.reader o.reader) l || pair_past (turn_of v now timeout ws G) p.writer p.reader (suc n)) (turn_of v now timeout ws G).counted) (λ e. entry_copies n l e) r
 
   copies_of : (n : ℕ) (l : List (Entry X)) → copies_in G.guid m (view_of v) (pos (suc n)) (vec_of (map (λ e. as_entry e) l)) ≡ copies_arrived (turn_of v now timeout ws G) (suc n) l
-  unfolding copies_arrived all
+  unfolding copies_arrived
   copies_of n [] = refl
   copies_of n (e ∷ l) = all_copies n (e ∷ l) (e ∷ l)
 
@@ -339,5 +337,5 @@ module _ {X : Type 0} (v : View) (now timeout : ℕ) (ws : List Writer) (G : Gro
       let t : Turn = turn_of v now timeout ws G in
       ap (λ b. (eq_z (pos (suc n)) (pos (suc c)) || b) && copies_in G.guid m (view_of v) (pos (suc n)) (get numbers (pos (suc n)) m.pending)) (passable_alike c (suc n) a)
       ∙ ap (λ b. (eqb (suc n) (suc c) || ruled_out t c (suc n)) && b)
-      (ap (λ u. copies_in G.guid m (view_of v) (pos (suc n)) u) (p.at (pos (suc n))) ∙ copies_of n (keep (λ e. is_at G.guid (pos (suc n)) e) l)
+      (ap (λ u. copies_in G.guid m (view_of v) (pos (suc n)) u) (p.at (pos (suc n))) ∙ copies_of n (filter (λ e. is_at G.guid (pos (suc n)) e) l)
       ∙ ap (λ r. copies_arrived t (suc n) r) (keep_same (λ e. is_at G.guid (pos (suc n)) e) (λ e. is_head t (suc n) e) (λ e. at_head (suc n) e) l))

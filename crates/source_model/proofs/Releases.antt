@@ -7,10 +7,13 @@ use Rattle.std.specs.Prelude.{Option, Some, None}
 use native.Mathlib.Omega.{arith}
 use lib.IntN.{ℤ, pos}
 use lib.ListN.{length}
-use Rattle.laws.specs.Lists.{keep, all, count, is_some}
+use Rattle.laws.specs.Lists.{filter, list_all, count, is_some}
 use Rattle.guids.specs.Guid.{Guid, same_guid}
-use Rattle.rules.specs.Entry.{Entry, of_group, in_set}
-use Rattle.rules.specs.State.{State, Group, Writer, is_group}
+use Rattle.rules.specs.Entry.{of_group, in_set}
+use Rattle.rules.specs.declared.entry.Entry.{Entry}
+use Rattle.rules.specs.State.{State, is_group}
+use Rattle.rules.specs.declared.state.Group.{Group}
+use Rattle.rules.specs.declared.state.Writer.{Writer}
 use Rattle.rules.specs.Marks.{number}
 use Rattle.rules.specs.Commit.{Turn}
 use Rattle.rules.specs.Release.{Work, View, turn_of, committed_at, round, rounds, enough, at_group, release_all, work_of, back_to, released}
@@ -21,7 +24,8 @@ use Rattle.rules.proofs.Frame.{frame, group_fewer}
 use Rattle.rules.proofs.Fuel.{more, stops as never_on}
 use Rattle.source_model.specs.Claim.{cut_counts, each_returns}
 use Rattle.source_model.specs.Map.{guids, or_default, get, ascends}
-use Rattle.source_model.specs.Source.{Loop, ReleaseCounts, GroupOrder, no_group, release_group, release_each, release}
+use Rattle.rules.specs.declared.state.ReleaseCounts.{ReleaseCounts}
+use Rattle.source_model.specs.Source.{Loop, GroupOrder, no_group, release_group, release_each, release}
 use Rattle.source_model.specs.Source as S
 use Rattle.source_model.specs.Calls.{view_of, handed}
 use Rattle.source_model.proofs.Maps.{guids_lawful, get_past, get_found, get_above}
@@ -40,10 +44,10 @@ module _ {X : Type 0} where
   unfolding in_set
   in_own h z e d = and_left (of_group h e) _ d
 
-  part : (h : Guid) (p : Entry X → Bool) → ((e : Entry X) → p e ≡ true → of_group h e ≡ true) → (l k : List (Entry X)) → keep (λ e. of_group h e) l ≡ keep (λ e. of_group h e) k → keep p l ≡ keep p k
-  part h p f l k d = sym (keep_under (λ e. of_group h e) p f l) ∙ ap (λ r. keep p r) d ∙ keep_under (λ e. of_group h e) p f k
+  part : (h : Guid) (p : Entry X → Bool) → ((e : Entry X) → p e ≡ true → of_group h e ≡ true) → (l k : List (Entry X)) → filter (λ e. of_group h e) l ≡ filter (λ e. of_group h e) k → filter p l ≡ filter p k
+  part h p f l k d = sym (keep_under (λ e. of_group h e) p f l) ∙ ap (λ r. filter p r) d ∙ keep_under (λ e. of_group h e) p f k
 
-  pub like_part : (h : Guid) (m : S.Group X) (ws : List Writer) (ps hs ps2 hs2 : List (Entry X)) → keep (λ e. of_group h e) ps2 ≡ keep (λ e. of_group h e) ps → keep (λ e. of_group h e) hs2 ≡ keep (λ e. of_group h e) hs
+  pub like_part : (h : Guid) (m : S.Group X) (ws : List Writer) (ps hs ps2 hs2 : List (Entry X)) → filter (λ e. of_group h e) ps2 ≡ filter (λ e. of_group h e) ps → filter (λ e. of_group h e) hs2 ≡ filter (λ e. of_group h e) hs
       → GroupLike h m ws ps hs → GroupLike h m ws ps2 hs2
   like_part h m ws ps hs ps2 hs2 a b l = record {
     committed = l.committed;
@@ -70,7 +74,7 @@ module _ {X : Type 0} where
   ascends_keys (x ∷ l) (y ∷ k) e =
       let d : x.0 ≡ y.0 = cc in
       let f : map (λ x. x.0) l ≡ map (λ x. x.0) k = cc in
-      ap (λ g. all (λ z. guids.less g z.0) l && ascends guids l) d ∙ ap (λ b. b && ascends guids l) (sym (all_map (λ g. guids.less y.0 g) (λ x. x.0) l) ∙ ap (λ r. all (λ g. guids.less y.0 g) r) f ∙ all_map (λ g. guids.less y.0 g) (λ x. x.0) k) ∙ ap (λ b. all (λ z. guids.less y.0 z.0) k && b) (ascends_keys l k f)
+      ap (λ g. list_all (λ z. guids.less g z.0) l && ascends guids l) d ∙ ap (λ b. b && ascends guids l) (sym (all_map (λ g. guids.less y.0 g) (λ x. x.0) l) ∙ ap (λ r. list_all (λ g. guids.less y.0 g) r) f ∙ all_map (λ g. guids.less y.0 g) (λ x. x.0) k) ∙ ap (λ b. list_all (λ z. guids.less y.0 z.0) k && b) (ascends_keys l k f)
 
   keys_same : (turns : ℕ) (v : S.GroupView) (now timeout : ℕ) (m : List (Guid × S.Group X)) (out : List (ℕ × X)) (c : ReleaseCounts) → map (λ x. x.0) (release_each turns v now timeout m out c).0 ≡ map (λ x. x.0) m
   unfolding release_each
@@ -82,13 +86,13 @@ module _ {X : Type 0} where
   -- a work that stands for what the model has so far
   pub record EachLike (ws : List Writer) (m : List (Guid × S.Group X)) (out : List (ℕ × X)) (c : ReleaseCounts) (w : Work X) : Type 0 where
     pub each : (h : Guid) → is_some (get guids h m) ≡ true → GroupLike h (or_default no_group (get guids h m)) ws w.pending w.held
-    pub plain : all (λ e. is_fresh e) w.pending ≡ true
-    pub held_sets : all (λ h. is_some h.set) w.held ≡ true
+    pub plain : list_all (λ e. is_fresh e) w.pending ≡ true
+    pub held_sets : list_all (λ h. is_some h.set) w.held ≡ true
     pub out_same : out ≡ handed w.out
     pub counts : w.counts ≡ cut_counts c
 
   begin_like : (ws : List Writer) (x : Guid × S.Group X) (out : List (ℕ × X)) (c : ReleaseCounts) (w : Work X) → GroupLike x.0 x.1 ws w.pending w.held
-      → all (λ e. is_fresh e) w.pending ≡ true → all (λ h. is_some h.set) w.held ≡ true → out ≡ handed w.out → w.counts ≡ cut_counts c
+      → list_all (λ e. is_fresh e) w.pending ≡ true → list_all (λ h. is_some h.set) w.held ≡ true → out ≡ handed w.out → w.counts ≡ cut_counts c
       → LoopLike (flat x).guid ws (flat x).announced (record { group = x.1; out = out; counts = c }) (at_group (flat x) w)
   unfolding flat at_group
   begin_like ws x out c w l p hs d e = record {
@@ -141,21 +145,21 @@ module _ {X : Type 0} where
   not_first : (x : Guid × S.Group X) (m : List (Guid × S.Group X)) (h : Guid) → ascends guids (x ∷ m) ≡ true → is_some (get guids h m) ≡ true → same_guid h x.0 ≡ false
   unfolding ascends is_some guids
   not_first x m h a s =
-      true_or_false (same_guid h x.0) (λ d. not_both (is_some (get guids h m)) s (ap is_some (ap (λ k. get guids k m) (same_eq h x.0 d) ∙ get_above guids_lawful x.0 m (and_left (all (λ y. guids.less x.0 y.0) m) _ a))))
+      true_or_false (same_guid h x.0) (λ d. not_both (is_some (get guids h m)) s (ap is_some (ap (λ k. get guids k m) (same_eq h x.0 d) ∙ get_above guids_lawful x.0 m (and_left (list_all (λ y. guids.less x.0 y.0) m) _ a))))
 
-  only_first : (h : Guid) (x : Guid × S.Group X) → same_guid h x.0 ≡ false → all (λ y. not (is_group h y)) (flat x ∷ []) ≡ true
-  unfolding all is_group flat
+  only_first : (h : Guid) (x : Guid × S.Group X) → same_guid h x.0 ≡ false → list_all (λ y. not (is_group h y)) (flat x ∷ []) ≡ true
+  unfolding is_group flat
   only_first h x d = rw d
 
   one_pending : (t : Group → Turn) (g : Group) (w : Work X) (h : Guid)
-      → (keep (λ e. of_group h e) (release_all t (g ∷ []) w).1.pending ≡ keep (λ e. of_group h e) w.pending) × (keep (λ e. of_group h e) (release_all t (g ∷ []) w).1.held ≡ keep (λ e. of_group h e) w.held)
-      → keep (λ e. of_group h e) (R.release_group (t g) g w).pending ≡ keep (λ e. of_group h e) w.pending
+      → (filter (λ e. of_group h e) (release_all t (g ∷ []) w).1.pending ≡ filter (λ e. of_group h e) w.pending) × (filter (λ e. of_group h e) (release_all t (g ∷ []) w).1.held ≡ filter (λ e. of_group h e) w.held)
+      → filter (λ e. of_group h e) (R.release_group (t g) g w).pending ≡ filter (λ e. of_group h e) w.pending
   unfolding release_all
   one_pending t g w h f = f.0
 
   one_held : (t : Group → Turn) (g : Group) (w : Work X) (h : Guid)
-      → (keep (λ e. of_group h e) (release_all t (g ∷ []) w).1.pending ≡ keep (λ e. of_group h e) w.pending) × (keep (λ e. of_group h e) (release_all t (g ∷ []) w).1.held ≡ keep (λ e. of_group h e) w.held)
-      → keep (λ e. of_group h e) (R.release_group (t g) g w).held ≡ keep (λ e. of_group h e) w.held
+      → (filter (λ e. of_group h e) (release_all t (g ∷ []) w).1.pending ≡ filter (λ e. of_group h e) w.pending) × (filter (λ e. of_group h e) (release_all t (g ∷ []) w).1.held ≡ filter (λ e. of_group h e) w.held)
+      → filter (λ e. of_group h e) (R.release_group (t g) g w).held ≡ filter (λ e. of_group h e) w.held
   unfolding release_all
   one_held t g w h f = f.1
 
@@ -170,13 +174,13 @@ module _ {X : Type 0} where
 
   rest_ascends : (x : Guid × S.Group X) (m : List (Guid × S.Group X)) → ascends guids (x ∷ m) ≡ true → ascends guids m ≡ true
   unfolding ascends
-  rest_ascends x m a = and_right (all (λ y. guids.less x.0 y.0) m) _ a
+  rest_ascends x m a = and_right (list_all (λ y. guids.less x.0 y.0) m) _ a
 
-  none_first : (x : Guid × S.Group X) (m : List (Guid × S.Group X)) → ascends guids (x ∷ m) ≡ true → all (λ y. not (is_group x.0 y)) (map (λ x. flat x) m) ≡ true
+  none_first : (x : Guid × S.Group X) (m : List (Guid × S.Group X)) → ascends guids (x ∷ m) ≡ true → list_all (λ y. not (is_group x.0 y)) (map (λ x. flat x) m) ≡ true
   unfolding ascends is_group flat guids
   none_first x m a =
       all_map (λ y. not (is_group x.0 y)) (λ x. flat x) m
-      ∙ all_imp (λ y. guids.less x.0 y.0) (λ y. not (same_guid x.0 y.0)) (λ y h. ap not (guids_lawful.less_apart x.0 y.0 h)) m (and_left (all (λ y. guids.less x.0 y.0) m) _ a)
+      ∙ all_imp (λ y. guids.less x.0 y.0) (λ y. not (same_guid x.0 y.0)) (λ y h. ap not (guids_lawful.less_apart x.0 y.0 h)) m (and_left (list_all (λ y. guids.less x.0 y.0) m) _ a)
 
 module _ (X : Type 0) (v : View) (now timeout : ℕ) (ws : List Writer) (turns n : ℕ) (fuel : 2 * n + 1 ≤ turns) where
   abbrev pub T : Group → Turn
@@ -310,11 +314,11 @@ module _ {X : Type 0} where
   get_none None e = refl
   get_none (Some m) e = not_both true refl e
 
-  unknown_all : (h : Guid) (m : List (Guid × S.Group X)) → is_some (get guids h m) ≡ false → all (λ y. not (is_group h y)) (map (λ x. flat x) m) ≡ true
-  unfolding get is_some all is_group flat guids
+  unknown_all : (h : Guid) (m : List (Guid × S.Group X)) → is_some (get guids h m) ≡ false → list_all (λ y. not (is_group h y)) (map (λ x. flat x) m) ≡ true
+  unfolding get is_some is_group flat guids
   unknown_all h [] e = refl
   unknown_all h (x ∷ m) e =
-      (elim (same_guid h x.0) as (λ t. is_some (cond t (Some x.1) (get guids h m)) ≡ false → not t && all (λ y. not (is_group h y)) (map (λ x. flat x) m) ≡ true) [
+      (elim (same_guid h x.0) as (λ t. is_some (cond t (Some x.1) (get guids h m)) ≡ false → not t && list_all (λ y. not (is_group h y)) (map (λ x. flat x) m) ≡ true) [
         | true ↦ λ d. not_both true refl d
         | false ↦ λ d. unknown_all h m d
       ]) e

@@ -9,11 +9,16 @@ use lib.IntN.{ℤ, pos, ◌+ℤ◌, ◌-ℤ◌}
 use lib.Dec.{ltb, eqb}
 use lib.ListN.{length}
 use borrow.Author.Tests.{ltb-true, eqb-true}
-use Rattle.laws.specs.Lists.{keep, all, any, count, find, is_some}
+use Rattle.laws.specs.Lists.{filter, list_all, list_any, count, find, is_some}
 use Rattle.guids.specs.Guid.{Guid, same_guid}
-use Rattle.rules.specs.Entry.{What, sample, set_end, Entry, is_sample, is_set, of_group, of_pair, in_set, is_member, is_end_of, marks}
-use Rattle.rules.specs.State.{Group, Writer}
-use Rattle.rules.specs.Sets.{Pair, lowest_ended, end_missing, members_of, members_of_pair, agrees_w, agrees_e, agrees, whole}
+use Rattle.rules.specs.Entry.{set_end, is_sample, is_set, of_group, of_pair, in_set, is_member, is_end_of, marks}
+use Rattle.rules.specs.declared.entry.What.{What}
+use Rattle.rules.specs.declared.entry.What.TheVariants.{Sample, End}
+use Rattle.rules.specs.declared.entry.Entry.{Entry}
+use Rattle.rules.specs.declared.state.Group.{Group}
+use Rattle.rules.specs.declared.state.Writer.{Writer}
+use Rattle.rules.specs.Sets.{lowest_ended, end_missing, members_of, members_of_pair, agrees_w, agrees_e, agrees, whole}
+use Rattle.rules.specs.declared.view.Pair.{Pair}
 use Rattle.rules.specs.Commit.{Turn, is_head, head_of, next, ready}
 use Rattle.rules.specs.Release.{Work, View, turn_of, skip, young, waited, discard, hand_out, finish, waits, round, rounds}
 use Rattle.rules.specs.Release as R
@@ -38,34 +43,32 @@ swap_last true b c = and_comm b c
 swap_last false b c = refl
 
 module _ {X : Type 0} where
-  ended_case : (u : Option (OpenSet X)) (l : List (Entry X)) → SetLike u l → any (λ m. marks m) l ≡ is_some_and (λ s. s.end_committed) u
-  unfolding any
+  ended_case : (u : Option (OpenSet X)) (l : List (Entry X)) → SetLike u l → list_any (λ m. marks m) l ≡ is_some_and (λ s. s.end_committed) u
   ended_case None [] closed = refl
   ended_case (Some s) l (opened a k) = sym k.ended
   ended_case None (_ ∷ _) x4 = elim x4 [ ]
 
   ended_sets : (g : Guid) (m : List (ℤ × OpenSet X)) (l : List (Entry X)) → SetsLike g m l
-      → (z : ℤ) → any (λ h. is_set z h.set) (keep (λ h. of_group g h && marks h) l) ≡ is_some_and (λ s. s.end_committed) (get numbers z m)
+      → (z : ℤ) → list_any (λ h. is_set z h.set) (filter (λ h. of_group g h && marks h) l) ≡ is_some_and (λ s. s.end_committed) (get numbers z m)
   unfolding in_set
   ended_sets g m l k z =
       any_keep (λ h. is_set z h.set) (λ h. of_group g h && marks h) l
       ∙ any_ext (λ h. (of_group g h && marks h) && is_set z h.set) (λ h. in_set g z h && marks h) (λ h. swap_last (of_group g h) (marks h) (is_set z h.set)) l
       ∙ sym (any_keep (λ h. marks h) (λ h. in_set g z h) l)
-      ∙ ended_case (get numbers z m) (keep (λ h. in_set g z h) l) (k.at z)
+      ∙ ended_case (get numbers z m) (filter (λ h. in_set g z h) l) (k.at z)
 
   pub ended_found : (g : Guid) (m : List (ℤ × OpenSet X)) (l : List (Entry X)) → SetsLike g m l → key_of (find (λ x. x.1.end_committed) m) ≡ lowest_ended g l
   unfolding lowest_ended
-  ended_found g m l k = found_lowest (λ x. x.1.end_committed) m (keep (λ h. of_group g h && marks h) l) k.ascend (ended_sets g m l k)
+  ended_found g m l k = found_lowest (λ x. x.1.end_committed) m (filter (λ h. of_group g h && marks h) l) k.ascend (ended_sets g m l k)
 
 abbrev pub rows_of : View → Guid → List Pair
-rows_of v g = keep (λ x. same_guid g x.group) v.counted
+rows_of v g = filter (λ x. same_guid g x.group) v.counted
 
 -- ---- whether a set waits, and whether it is whole
 
-not_any : {A : Type 0} (q : A → Bool) (l : List A) → all q l ≡ not (any (λ x. not (q x)) l)
-unfolding all any
+not_any : {A : Type 0} (q : A → Bool) (l : List A) → list_all q l ≡ not (list_any (λ x. not (q x)) l)
 not_any q [] = refl
-not_any q (a ∷ l) = ap (λ b. q a && b) (not_any q l) ∙ (elim (q a) as (λ t. t && not (any (λ x. not (q x)) l) ≡ not (not t || any (λ x. not (q x)) l)) [ true ↦ refl | false ↦ refl ])
+not_any q (a ∷ l) = ap (λ b. q a && b) (not_any q l) ∙ (elim (q a) as (λ t. t && not (list_any (λ x. not (q x)) l) ≡ not (not t || list_any (λ x. not (q x)) l)) [ true ↦ refl | false ↦ refl ])
 
 pub first_map : {A B : Type 0} (f : A → B) (l : List A) → first_of (map f l) ≡ map_o f (first_of l)
 first_map f [] = refl
@@ -81,12 +84,12 @@ module _ {X : Type 0} where
   unfolding is_pair_end is_end_of
   end_of g z p h = sym (and_three (in_set g z h) (not (is_sample h)) (of_pair p.0 p.1 h))
 
-  kept_end : (g : Guid) (z : ℤ) (p : Guid × ℕ) (l : List (Entry X)) → keep (λ h. is_pair_end p h) (keep (λ h. in_set g z h) l) ≡ keep (λ h. is_end_of g z p.0 p.1 h) l
+  kept_end : (g : Guid) (z : ℤ) (p : Guid × ℕ) (l : List (Entry X)) → filter (λ h. is_pair_end p h) (filter (λ h. in_set g z h) l) ≡ filter (λ h. is_end_of g z p.0 p.1 h) l
   kept_end g z p l = keep_keep (λ h. is_pair_end p h) (λ h. in_set g z h) l ∙ keep_same (λ h. in_set g z h && is_pair_end p h) (λ h. is_end_of g z p.0 p.1 h) (λ h. end_of g z p h) l
 
-  end_there : (g : Guid) (z : ℤ) (p : Guid × ℕ) (s : OpenSet X) (l : List (Entry X)) → OpenLike s (keep (λ h. in_set g z h) l) → is_some (get pairs p s.ends) ≡ any (λ h. is_end_of g z p.0 p.1 h) l
+  end_there : (g : Guid) (z : ℤ) (p : Guid × ℕ) (s : OpenSet X) (l : List (Entry X)) → OpenLike s (filter (λ h. in_set g z h) l) → is_some (get pairs p s.ends) ≡ list_any (λ h. is_end_of g z p.0 p.1 h) l
   end_there g z p s l k =
-      pair_there (get pairs p s.ends) (keep (λ h. is_pair_end p h) (keep (λ h. in_set g z h) l)) (k.ends p)
+      pair_there (get pairs p s.ends) (filter (λ h. is_pair_end p h) (filter (λ h. in_set g z h) l)) (k.ends p)
       ∙ ap (λ r. is_some (first_of r)) (kept_end g z p l) ∙ ap is_some (sym (find_keep (λ h. is_end_of g z p.0 p.1 h) l)) ∙ find_any (λ h. is_end_of g z p.0 p.1 h) l
 
   waited_same : (now : ℕ) (u : Option (Entry X)) → S.waited now (map_o (λ e. as_entry e) u) ≡ waited now u
@@ -95,10 +98,10 @@ module _ {X : Type 0} where
   waited_same now (Some e) = refl
 
   agrees_what : (m : ℕ) (w : What X) (x : SetEnd) → end_w w ≡ Some x → agrees_with m x.first_sn x.ecs_sn ≡ agrees_w m w
-  agrees_what m (sample i) x d = none_some x d
-  agrees_what m (set_end f o) x d =
-      let q : record { first_sn = f; ecs_sn = o } ≡ x = cc in
-      ap (λ y. agrees_with m y.first_sn y.ecs_sn) (sym q) ∙ agrees_parts X m f o
+  agrees_what m (Sample i) x d = none_some x d
+  agrees_what m (End n0) x d =
+      let q : record { first_sn = n0.first; ecs_sn = n0.own } ≡ x = cc in
+      ap (λ y. agrees_with m y.first_sn y.ecs_sn) (sym q) ∙ agrees_parts X m n0.first n0.own
 
   agrees_case : (m : ℕ) (u : Option SetEnd) (l : List (Entry X)) → EndLike u l → is_some_and (λ x. agrees_with m x.first_sn x.ecs_sn) u ≡ agrees_e m (first_of l)
   agrees_case m None [] no_end = refl
@@ -107,20 +110,20 @@ module _ {X : Type 0} where
   agrees_case m (Some x) [] x4 = elim x4 [ ]
   agrees_case m (Some x) (e ∷ (_ ∷ _)) x9 = elim x9 [ ]
 
-  count_pair : (g : Guid) (z : ℤ) (p : Pair) (s : OpenSet X) (l : List (Entry X)) → OpenLike s (keep (λ h. in_set g z h) l)
+  count_pair : (g : Guid) (z : ℤ) (p : Pair) (s : OpenSet X) (l : List (Entry X)) → OpenLike s (filter (λ h. in_set g z h) l)
       → count (λ m. same_guid p.writer m.writer && eqb p.reader m.reader) s.members ≡ members_of_pair g z p l
   unfolding members_of_pair members_of count of_pair as_entry
   count_pair g z p s l k =
       ap (λ r. count (λ m. same_guid p.writer m.writer && eqb p.reader m.reader) r) (members_same g z s l k)
-      ∙ count_map (λ m. same_guid p.writer m.writer && eqb p.reader m.reader) (λ e. as_entry e) (keep (λ h. is_member g z h) l)
+      ∙ count_map (λ m. same_guid p.writer m.writer && eqb p.reader m.reader) (λ e. as_entry e) (filter (λ h. is_member g z h) l)
       ∙ ap length (keep_keep (λ h. same_guid p.writer h.writer && eqb p.reader h.reader) (λ h. is_member g z h) l)
 
-  agrees_pair : (g : Guid) (z : ℤ) (p : Pair) (s : OpenSet X) (l : List (Entry X)) → OpenLike s (keep (λ h. in_set g z h) l)
+  agrees_pair : (g : Guid) (z : ℤ) (p : Pair) (s : OpenSet X) (l : List (Entry X)) → OpenLike s (filter (λ h. in_set g z h) l)
       → is_some_and (λ x. agrees_with (count (λ m. same_guid p.writer m.writer && eqb p.reader m.reader) s.members) x.first_sn x.ecs_sn) (get pairs (p.writer, p.reader) s.ends) ≡ agrees g z l p
   unfolding agrees
   agrees_pair g z p s l k =
       ap (λ n. is_some_and (λ x. agrees_with n x.first_sn x.ecs_sn) (get pairs (p.writer, p.reader) s.ends)) (count_pair g z p s l k)
-      ∙ agrees_case (members_of_pair g z p l) (get pairs (p.writer, p.reader) s.ends) (keep (λ h. is_pair_end (p.writer, p.reader) h) (keep (λ h. in_set g z h) l)) (k.ends (p.writer, p.reader))
+      ∙ agrees_case (members_of_pair g z p l) (get pairs (p.writer, p.reader) s.ends) (filter (λ h. is_pair_end (p.writer, p.reader) h) (filter (λ h. in_set g z h) l)) (k.ends (p.writer, p.reader))
       ∙ ap (λ r. agrees_e (members_of_pair g z p l) (first_of r)) (kept_end g z (p.writer, p.reader) l)
       ∙ ap (λ u. agrees_e (members_of_pair g z p l) u) (sym (find_keep (λ h. is_end_of g z p.writer p.reader h) l))
 
@@ -129,25 +132,25 @@ module _ {X : Type 0} where
   items_same [] = refl
   items_same (e ∷ l) = ap (λ r. item_of (item_w e.what) e.reader r) (items_same l)
 
-  module _ (v : View) (g : Guid) (z : ℤ) (s : OpenSet X) (l : List (Entry X)) (k : OpenLike s (keep (λ h. in_set g z h) l)) where
+  module _ (v : View) (g : Guid) (z : ℤ) (s : OpenSet X) (l : List (Entry X)) (k : OpenLike s (filter (λ h. in_set g z h) l)) where
     pub ends_alike : (now timeout : ℕ) → all_ends g (view_of v) now timeout s ≡ not (end_missing g z (rows_of v g) l)
     unfolding all_ends end_missing
     ends_alike now timeout =
         counted_all v g (λ p. is_some (get pairs p s.ends))
-        ∙ all_ext (λ x. is_some (get pairs (x.writer, x.reader) s.ends)) (λ x. any (λ h. is_end_of g z x.writer x.reader h) l) (λ x. end_there g z (x.writer, x.reader) s l k) (rows_of v g)
-        ∙ not_any (λ x. any (λ h. is_end_of g z x.writer x.reader h) l) (rows_of v g)
+        ∙ all_ext (λ x. is_some (get pairs (x.writer, x.reader) s.ends)) (λ x. list_any (λ h. is_end_of g z x.writer x.reader h) l) (λ x. end_there g z (x.writer, x.reader) s l k) (rows_of v g)
+        ∙ not_any (λ x. list_any (λ h. is_end_of g z x.writer x.reader h) l) (rows_of v g)
 
     pub whole_alike : (now timeout : ℕ) → complete s ((view_of v).counted g) (all_ends g (view_of v) now timeout s) ≡ whole g z (rows_of v g) l
     unfolding complete whole
     whole_alike now timeout =
-        ap (λ b. b && all (λ pair. is_some_and (λ x. agrees_with (count (λ m. same_guid pair.0 m.writer && eqb pair.1 m.reader) s.members) x.first_sn x.ecs_sn) (get pairs pair s.ends)) ((view_of v).counted g)) (ends_alike now timeout)
+        ap (λ b. b && list_all (λ pair. is_some_and (λ x. agrees_with (count (λ m. same_guid pair.0 m.writer && eqb pair.1 m.reader) s.members) x.first_sn x.ecs_sn) (get pairs pair s.ends)) ((view_of v).counted g)) (ends_alike now timeout)
         ∙ ap (λ b. not (end_missing g z (rows_of v g) l) && b)
         (counted_all v g (λ pair. is_some_and (λ x. agrees_with (count (λ m. same_guid pair.0 m.writer && eqb pair.1 m.reader) s.members) x.first_sn x.ecs_sn) (get pairs pair s.ends))
         ∙ all_ext (λ p. is_some_and (λ x. agrees_with (count (λ m. same_guid p.writer m.writer && eqb p.reader m.reader) s.members) x.first_sn x.ecs_sn) (get pairs (p.writer, p.reader) s.ends)) (λ p. agrees g z l p) (λ p. agrees_pair g z p s l k) (rows_of v g))
 
     pub first_member : first_of s.members ≡ map_o (λ e. as_entry e) (find (λ h. is_member g z h) l)
     unfolding members_of
-    first_member = ap first_of (members_same g z s l k) ∙ first_map (λ e. as_entry e) (keep (λ h. is_member g z h) l) ∙ ap (λ u. map_o (λ e. as_entry e) u) (sym (find_keep (λ h. is_member g z h) l))
+    first_member = ap first_of (members_same g z s l k) ∙ first_map (λ e. as_entry e) (filter (λ h. is_member g z h) l) ∙ ap (λ u. map_o (λ e. as_entry e) u) (sym (find_keep (λ h. is_member g z h) l))
 
 -- ---- the steps of a round
 
@@ -171,7 +174,7 @@ module _ (X : Type 0) (v : View) (now timeout : ℕ) (ws : List Writer) (G : Gro
   abbrev pub removed : (z : ℤ) (lp : Loop X) → Loop X
   removed z lp = record { group = with_sets (remove numbers z lp.group.sets) lp.group; out = lp.out; counts = lp.counts }
 
-  finish_whole : (z : ℤ) (s : OpenSet X) (lp : Loop X) (w : Work X) → OpenLike s (keep (λ h. in_set G.guid z h) w.held) → Alike lp w → Alike (S.finish_if true s (removed z lp)) (R.finish_if true G.guid z w)
+  finish_whole : (z : ℤ) (s : OpenSet X) (lp : Loop X) (w : Work X) → OpenLike s (filter (λ h. in_set G.guid z h) w.held) → Alike lp w → Alike (S.finish_if true s (removed z lp)) (R.finish_if true G.guid z w)
   unfolding hand_out with_sets
   finish_whole z s lp w k l = record {
     committed = l.committed;
@@ -185,7 +188,7 @@ module _ (X : Type 0) (v : View) (now timeout : ℕ) (ws : List Writer) (G : Gro
     counts = l.counts;
   }
 
-  finish_lost : (z : ℤ) (s : OpenSet X) (lp : Loop X) (w : Work X) → OpenLike s (keep (λ h. in_set G.guid z h) w.held) → Alike lp w → Alike (S.finish_if false s (removed z lp)) (R.finish_if false G.guid z w)
+  finish_lost : (z : ℤ) (s : OpenSet X) (lp : Loop X) (w : Work X) → OpenLike s (filter (λ h. in_set G.guid z h) w.held) → Alike lp w → Alike (S.finish_if false s (removed z lp)) (R.finish_if false G.guid z w)
   unfolding discard with_sets
   finish_lost z s lp w k l =
       let n : length (members_of G.guid z w.held) ≡ length s.members = sym (ap length (members_same G.guid z s w.held k) ∙ length_map (λ e. as_entry e) (members_of G.guid z w.held)) in
@@ -201,18 +204,18 @@ module _ (X : Type 0) (v : View) (now timeout : ℕ) (ws : List Writer) (G : Gro
         counts = ap (λ c. R.discards (length (members_of G.guid z w.held)) c) l.counts ∙ ap (λ j. R.discards j (cut_counts lp.counts)) n ∙ discards_cut (length s.members) lp.counts;
       }
 
-  finish_both : (b : Bool) (z : ℤ) (s : OpenSet X) (lp : Loop X) (w : Work X) → OpenLike s (keep (λ h. in_set G.guid z h) w.held) → Alike lp w → Alike (S.finish_if b s (removed z lp)) (R.finish_if b G.guid z w)
+  finish_both : (b : Bool) (z : ℤ) (s : OpenSet X) (lp : Loop X) (w : Work X) → OpenLike s (filter (λ h. in_set G.guid z h) w.held) → Alike lp w → Alike (S.finish_if b s (removed z lp)) (R.finish_if b G.guid z w)
   finish_both true z s lp w k l = finish_whole z s lp w k l
   finish_both false z s lp w k l = finish_lost z s lp w k l
 
-  pub finish_like : (z : ℤ) (s : OpenSet X) (lp : Loop X) (w : Work X) → OpenLike s (keep (λ h. in_set G.guid z h) w.held) → Alike lp w
+  pub finish_like : (z : ℤ) (s : OpenSet X) (lp : Loop X) (w : Work X) → OpenLike s (filter (λ h. in_set G.guid z h) w.held) → Alike lp w
       → Alike (finish_set s ((view_of v).counted G.guid) (all_ends G.guid (view_of v) now timeout s) (removed z lp)) (finish t z w)
   unfolding finish_set finish turn_of
   finish_like z s lp w k l =
       subst (λ (b : Bool). Alike (S.finish_if b s (removed z lp)) (R.finish_if (whole G.guid z (rows_of v G.guid) w.held) G.guid z w)) (sym (whole_alike v G.guid z s w.held k now timeout))
       (finish_both (whole G.guid z (rows_of v G.guid) w.held) z s lp w k l)
 
-  waits_alike : (z : ℤ) (s : OpenSet X) (w : Work X) → OpenLike s (keep (λ h. in_set G.guid z h) w.held)
+  waits_alike : (z : ℤ) (s : OpenSet X) (w : Work X) → OpenLike s (filter (λ h. in_set G.guid z h) w.held)
       → not (all_ends G.guid (view_of v) now timeout s) && ltb (S.waited now (first_of s.members)) timeout ≡ waits t z w.held
   unfolding waits turn_of
   waits_alike z s w k =
@@ -221,7 +224,7 @@ module _ (X : Type 0) (v : View) (now timeout : ℕ) (ws : List Writer) (G : Gro
       ∙ ap (λ u. end_missing G.guid z (rows_of v G.guid) w.held && ltb (S.waited now u) timeout) (first_member v G.guid z s w.held k)
       ∙ ap (λ b. end_missing G.guid z (rows_of v G.guid) w.held && b) (young_same (find (λ h. is_member G.guid z h) w.held))
 
-  finish_or_lem : (b : Bool) (z : ℤ) (s : OpenSet X) (lp : Loop X) (w : Work X) → OpenLike s (keep (λ h. in_set G.guid z h) w.held) → Alike lp w
+  finish_or_lem : (b : Bool) (z : ℤ) (s : OpenSet X) (lp : Loop X) (w : Work X) → OpenLike s (filter (λ h. in_set G.guid z h) w.held) → Alike lp w
       → StepLike G.guid ws G.announced (S.finish_or G.guid (view_of v) now timeout b z s lp) (R.finish_or b t z w)
   finish_or_lem true z s lp w k l = stops
   finish_or_lem false z s lp w k l = goes (finish_like z s lp w k l)
@@ -232,25 +235,25 @@ module _ (X : Type 0) (v : View) (now timeout : ℕ) (ws : List Writer) (G : Gro
       (R.finish_or (waits t z w.held) t z w)
   ended_step z lp w l =
       let s : OpenSet X = or_default no_set (get numbers z lp.group.sets) in
-      let k : OpenLike s (keep (λ h. in_set G.guid z h) w.held) = set_open (get numbers z lp.group.sets) (keep (λ h. in_set G.guid z h) w.held) (l.sets.at z) in
+      let k : OpenLike s (filter (λ h. in_set G.guid z h) w.held) = set_open (get numbers z lp.group.sets) (filter (λ h. in_set G.guid z h) w.held) (l.sets.at z) in
       subst (λ (b : Bool). StepLike G.guid ws G.announced (S.finish_or G.guid (view_of v) now timeout b z s lp) (R.finish_or (waits t z w.held) t z w)) (sym (waits_alike z s w k)) (finish_or_lem (waits t z w.held) z s lp w k l)
 
   -- ---- committing a number
 
-  fresh_heads : (n : ℕ) (w : Work X) → all (λ e. is_fresh e) w.pending ≡ true → all (λ e. is_fresh e) (head_of t n w.pending) ≡ true
+  fresh_heads : (n : ℕ) (w : Work X) → list_all (λ e. is_fresh e) w.pending ≡ true → list_all (λ e. is_fresh e) (head_of t n w.pending) ≡ true
   unfolding head_of
   fresh_heads n w h = all_keep (λ e. is_fresh e) (λ e. is_head t n e) w.pending h
 
-  own_heads : (n : ℕ) (w : Work X) → all (λ e. of_group G.guid e) (head_of t n w.pending) ≡ true
+  own_heads : (n : ℕ) (w : Work X) → list_all (λ e. of_group G.guid e) (head_of t n w.pending) ≡ true
   unfolding head_of is_head turn_of
   own_heads n w = all_imp (λ e. is_head t n e) (λ e. of_group G.guid e) (λ e h. and_left (of_group G.guid e) _ h) (head_of t n w.pending) (all_kept (λ e. is_head t n e) w.pending)
 
-  rest_same : (n : ℕ) (l : List (Entry X)) → keep (λ e. not (is_at G.guid (pos n) e)) l ≡ keep (λ e. not (is_head t n e)) l
+  rest_same : (n : ℕ) (l : List (Entry X)) → filter (λ e. not (is_at G.guid (pos n) e)) l ≡ filter (λ e. not (is_head t n e)) l
   unfolding turn_of is_head is_at
   rest_same n l = refl
 
   taken_like : (n k : ℕ) (lp : Loop X) (w : Work X) → Alike lp w
-      → Alike (S.taken (pos n) k lp) (record { committed = n; pending = keep (λ e. not (is_head t n e)) w.pending; held = w.held; out = w.out; lost = w.lost; counts = skip k w.counts })
+      → Alike (S.taken (pos n) k lp) (record { committed = n; pending = filter (λ e. not (is_head t n e)) w.pending; held = w.held; out = w.out; lost = w.lost; counts = skip k w.counts })
   unfolding S.taken
   taken_like n k lp w l = record {
     committed = refl;
@@ -274,7 +277,7 @@ module _ (X : Type 0) (v : View) (now timeout : ℕ) (ws : List Writer) (G : Gro
       subst (λ (r : List (S.Entry X)). Alike (S.commit_each r (S.taken (pos n) k lp)) (R.commit t n k w)) (sym (heads_same n lp w l))
       (commit_each_lem G.guid ws G.announced (head_of t n w.pending) (S.taken (pos n) k lp) _ (own_heads n w) (fresh_heads n w l.plain) (taken_like n k lp w l))
 
-  head_positive : (n : ℕ) (w : Work X) → all (λ e. is_fresh e) w.pending ≡ true → next t w.pending ≡ Some n → 0 < n
+  head_positive : (n : ℕ) (w : Work X) → list_all (λ e. is_fresh e) w.pending ≡ true → next t w.pending ≡ Some n → 0 < n
   unfolding is_fresh is_head
   head_positive n w f d =
       any_all (λ e. is_head t n e) (λ e. is_fresh e) (λ e a b. let h = ltb-true 0 e.number (and_right (not (marks e)) _ b) in let q = eqb-true n e.number (and_right (of_group t.guid e) _ a) in omega (arith, h, q)) w.pending (next_head t w.pending n d) f
@@ -290,7 +293,7 @@ module _ (X : Type 0) (v : View) (now timeout : ℕ) (ws : List Writer) (G : Gro
 
   first_head : (n : ℕ) (lp : Loop X) (w : Work X) → Alike lp w → first_of (or_default [] (get numbers (pos n) lp.group.pending)) ≡ map_o (λ e. as_entry e) (find (λ e. is_head t n e) w.pending)
   unfolding head_of
-  first_head n lp w l = ap first_of (heads_same n lp w l) ∙ first_map (λ e. as_entry e) (keep (λ e. is_head t n e) w.pending) ∙ ap (λ u. map_o (λ e. as_entry e) u) (sym (find_keep (λ e. is_head t n e) w.pending))
+  first_head n lp w l = ap first_of (heads_same n lp w l) ∙ first_map (λ e. as_entry e) (filter (λ e. is_head t n e) w.pending) ∙ ap (λ u. map_o (λ e. as_entry e) u) (sym (find_keep (λ e. is_head t n e) w.pending))
 
   next_missing : (lp : Loop X) (w : Work X) → Alike lp w → lp.group.committed +ℤ pos 1 ≡ pos (suc w.committed)
   next_missing lp w l = ap (λ c. c +ℤ pos 1) l.committed ∙ one_more w.committed

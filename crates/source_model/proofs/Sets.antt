@@ -7,9 +7,12 @@ use Rattle.std.specs.Prelude.{Option, Some, None}
 use lib.IntN.{ℤ, pos}
 use borrow.Author.Tests.{eqb-true}
 use Rattle.laws.specs.Whole.{eq_z}
-use Rattle.laws.specs.Lists.{keep, any, is_some}
+use Rattle.laws.specs.Lists.{filter, list_any, is_some}
 use Rattle.guids.specs.Guid.{Guid, same_guid}
-use Rattle.rules.specs.Entry.{What, sample, set_end, Entry, is_sample, is_sample_w, is_set, same_set, of_group, in_set, of_pair, marks}
+use Rattle.rules.specs.Entry.{set_end, is_sample, is_sample_w, is_set, same_set, of_group, in_set, of_pair, marks}
+use Rattle.rules.specs.declared.entry.What.{What}
+use Rattle.rules.specs.declared.entry.What.TheVariants.{Sample, End}
+use Rattle.rules.specs.declared.entry.Entry.{Entry}
 use Rattle.rules.specs.Sets.{without}
 use Rattle.rules.specs.Offer.{shares, replaced, marked, keep_end}
 use Rattle.laws.proofs.Lists.{not_both, and_true, and_left, and_right, keep_append, keep_none, keep_same, keep_keep, keep_under, keep_last, any_append, any_empty, and_never, true_or_false}
@@ -54,8 +57,7 @@ vec_snoc [] a = refl
 vec_snoc (b ∷ l) a = refl
 
 module _ {X : Type 0} where
-  pub keep_first : (p : Entry X → Bool) (l : List (Entry X)) (e : Entry X) → p e ≡ true → keep p (l ++ (e ∷ [])) ≡ keep p l ++ (e ∷ [])
-  unfolding keep
+  pub keep_first : (p : Entry X → Bool) (l : List (Entry X)) (e : Entry X) → p e ≡ true → filter p (l ++ (e ∷ [])) ≡ filter p l ++ (e ∷ [])
   keep_first p l e h = rw (keep_append p l (e ∷ []), h)
 
   at_own : (g : Guid) (n : ℤ) (e : Entry X) → of_group g e ≡ true → eq_z n (pos e.number) ≡ true → is_at g n e ≡ true
@@ -71,10 +73,10 @@ module _ {X : Type 0} where
   unfolding entry numbers
   push_like g m l e o k = record {
     at = λ n. rw (get_insert numbers_lawful n (pos e.number) (or_default [] (get numbers (pos e.number) m) ++ (as_entry e ∷ [])) m)
-        ((elim (eq_z n (pos e.number)) as (λ t. eq_z n (pos e.number) ≡ t → cond t (Some (or_default [] (get numbers (pos e.number) m) ++ (as_entry e ∷ []))) (get numbers n m) ≡ vec_of (map (λ e. as_entry e) (keep (λ x. is_at g n x) (l ++ (e ∷ []))))) [
+        ((elim (eq_z n (pos e.number)) as (λ t. eq_z n (pos e.number) ≡ t → cond t (Some (or_default [] (get numbers (pos e.number) m) ++ (as_entry e ∷ []))) (get numbers n m) ≡ vec_of (map (λ e. as_entry e) (filter (λ x. is_at g n x) (l ++ (e ∷ []))))) [
           | true ↦ λ d.
               let q : n ≡ pos e.number = eq_z_eq n (pos e.number) d in
-              rw (keep_first (λ x. is_at g n x) l e (at_own g n e o d), map_append (λ e. as_entry e) (keep (λ x. is_at g n x) l) (e ∷ []), vec_snoc (map (λ e. as_entry e) (keep (λ x. is_at g n x) l)) (as_entry e), ← q, k.at n, vec_back (map (λ e. as_entry e) (keep (λ x. is_at g n x) l)))
+              rw (keep_first (λ x. is_at g n x) l e (at_own g n e o d), map_append (λ e. as_entry e) (filter (λ x. is_at g n x) l) (e ∷ []), vec_snoc (map (λ e. as_entry e) (filter (λ x. is_at g n x) l)) (as_entry e), ← q, k.at n, vec_back (map (λ e. as_entry e) (filter (λ x. is_at g n x) l)))
           | false ↦ λ d. rw (keep_last (λ x. is_at g n x) l e (at_other g n e d)) (k.at n)
         ]) refl);
     ascend = insert_ascends numbers_lawful (pos e.number) (or_default [] (get numbers (pos e.number) m) ++ (as_entry e ∷ [])) m k.ascend;
@@ -92,7 +94,7 @@ module _ {X : Type 0} where
   }
 
   -- the entries of one number leave
-  none_left : (g : Guid) (n : ℤ) (l : List (Entry X)) → keep (λ x. is_at g n x) (keep (λ x. not (is_at g n x)) l) ≡ []
+  none_left : (g : Guid) (n : ℤ) (l : List (Entry X)) → filter (λ x. is_at g n x) (filter (λ x. not (is_at g n x)) l) ≡ []
   none_left g n l = keep_keep (λ x. is_at g n x) (λ x. not (is_at g n x)) l ∙ keep_none (λ x. not (is_at g n x) && is_at g n x) l (any_empty (λ x. not (is_at g n x) && is_at g n x) (λ x. elim (is_at g n x) as (λ b. not b && b ≡ false) [ true ↦ refl | false ↦ refl ]) l)
 
   one_number : (g : Guid) (n k : ℤ) (e : Entry X) → eq_z k n ≡ false → is_at g k e ≡ true → not (is_at g n e) ≡ true
@@ -101,11 +103,11 @@ module _ {X : Type 0} where
       ap not (and_never (of_group g e) (eq_z n (pos e.number)) (true_or_false (eq_z n (pos e.number)) (λ q. not_both (eq_z k n) (rw (eq_z_eq n (pos e.number) q) (and_right (of_group g e) _ h)) d)))
 
   pub take_like : (g : Guid) (n : ℤ) (m : List (ℤ × List (S.Entry X))) (l : List (Entry X)) → PendingLike g m l
-      → PendingLike g (remove numbers n m) (keep (λ x. not (is_at g n x)) l)
+      → PendingLike g (remove numbers n m) (filter (λ x. not (is_at g n x)) l)
   unfolding numbers
   take_like g n m l p = record {
     at = λ k. rw (get_remove numbers_lawful k n m)
-        ((elim (eq_z k n) as (λ t. eq_z k n ≡ t → cond t None (get numbers k m) ≡ vec_of (map (λ e. as_entry e) (keep (λ x. is_at g k x) (keep (λ x. not (is_at g n x)) l)))) [
+        ((elim (eq_z k n) as (λ t. eq_z k n ≡ t → cond t None (get numbers k m) ≡ vec_of (map (λ e. as_entry e) (filter (λ x. is_at g k x) (filter (λ x. not (is_at g n x)) l)))) [
           | true ↦ λ d. rw (eq_z_eq k n d, none_left g n l)
           | false ↦ λ d. rw (keep_under (λ x. not (is_at g n x)) (λ x. is_at g k x) (λ x h. one_number g n k x d h) l) (p.at k)
         ]) refl);
@@ -115,7 +117,7 @@ module _ {X : Type 0} where
   -- ---- open sets
 
   pub no_set_like : OpenLike {X = X} no_set []
-  unfolding no_set keep any get ascends
+  unfolding no_set get ascends
   no_set_like = record { members = refl; ends = λ p. no_end; ends_ascend = refl; ended = refl }
 
   pub set_open : (o : Option (OpenSet X)) (l : List (Entry X)) → SetLike o l → OpenLike (or_default no_set o) l
@@ -124,8 +126,8 @@ module _ {X : Type 0} where
   set_open None (_ ∷ _) x4 = elim x4 [ ]
 
   not_sample : (w : What X) (x : SetEnd) → end_w w ≡ Some x → is_sample_w w ≡ false
-  not_sample (sample i) x e = cc
-  not_sample (set_end f o) x e = refl
+  not_sample (Sample i) x e = cc
+  not_sample (End u) x e = refl
 
   -- a kept end
   sample_stays : (q : Guid × ℕ) (h : Entry X) → is_sample h ≡ true → not (is_pair_end q h) ≡ true
@@ -147,7 +149,7 @@ module _ {X : Type 0} where
       let y = and_right (not (is_sample h)) _ b in
       rw (same_eq q.0 h.writer (and_left (same_guid q.0 h.writer) _ y), eqb-true q.1 h.reader (and_right (same_guid q.0 h.writer) _ y)) x
 
-  no_pair_left : (q : Guid × ℕ) (l : List (Entry X)) → keep (λ h. is_pair_end q h) (keep (λ h. not (is_pair_end q h)) l) ≡ []
+  no_pair_left : (q : Guid × ℕ) (l : List (Entry X)) → filter (λ h. is_pair_end q h) (filter (λ h. not (is_pair_end q h)) l) ≡ []
   no_pair_left q l = keep_keep (λ h. is_pair_end q h) (λ h. not (is_pair_end q h)) l ∙ keep_none (λ h. not (is_pair_end q h) && is_pair_end q h) l (any_empty (λ h. not (is_pair_end q h) && is_pair_end q h) (λ h. elim (is_pair_end q h) as (λ b. not b && b ≡ false) [ true ↦ refl | false ↦ refl ]) l)
 
   pub marked_what : (m : Option ℕ) (e : Entry X) → (marked m e).what ≡ e.what
@@ -163,21 +165,21 @@ module _ {X : Type 0} where
   keeping b e x s = record { members = s.members; ends = insert pairs (e.writer, e.reader) x s.ends; end_committed = b }
 
   pub keep_end_like : (b : Bool) (m : Option ℕ) (e : Entry X) (x : SetEnd) (s : OpenSet X) (l : List (Entry X)) → end_w e.what ≡ Some x
-      → b ≡ any (λ h. marks h) (keep (λ h. not (is_pair_end (e.writer, e.reader) h)) l) || is_some m
-      → OpenLike s l → OpenLike (keeping b e x s) (keep (λ h. not (is_pair_end (e.writer, e.reader) h)) l ++ (marked m e ∷ []))
-  unfolding keeping any
+      → b ≡ list_any (λ h. marks h) (filter (λ h. not (is_pair_end (e.writer, e.reader) h)) l) || is_some m
+      → OpenLike s l → OpenLike (keeping b e x s) (filter (λ h. not (is_pair_end (e.writer, e.reader) h)) l ++ (marked m e ∷ []))
+  unfolding keeping
   keep_end_like b m e x s l d f k =
       let q : Guid × ℕ = (e.writer, e.reader) in
-      let r : List (Entry X) = keep (λ h. not (is_pair_end q h)) l in
+      let r : List (Entry X) = filter (λ h. not (is_pair_end q h)) l in
       record {
         members = k.members ∙ ap (λ z. map (λ e. as_entry e) z) (sym (keep_last (λ h. is_sample h) r (marked m e) (marked_sample m e x d) ∙ keep_under (λ h. not (is_pair_end q h)) (λ h. is_sample h) (λ h. sample_stays q h) l));
         ends = λ p. rw (get_insert pairs_lawful p q x s.ends)
-            ((elim (pairs.same p q) as (λ t. pairs.same p q ≡ t → EndLike (cond t (Some x) (get pairs p s.ends)) (keep (λ h. is_pair_end p h) (r ++ (marked m e ∷ [])))) [
+            ((elim (pairs.same p q) as (λ t. pairs.same p q ≡ t → EndLike (cond t (Some x) (get pairs p s.ends)) (filter (λ h. is_pair_end p h) (r ++ (marked m e ∷ [])))) [
               | true ↦ λ a. rw (pairs_lawful.same_is p q a, keep_first (λ h. is_pair_end q h) r (marked m e) (marked_end m e x q d ∙ pairs_lawful.same_self q), no_pair_left q l) (one_end (ap (λ w. end_w w) (marked_what m e) ∙ d))
               | false ↦ λ a. rw (keep_last (λ h. is_pair_end p h) r (marked m e) (marked_end m e x p d ∙ a), keep_under (λ h. not (is_pair_end q h)) (λ h. is_pair_end p h) (λ h u. ap not (true_or_false (is_pair_end q h) (λ v. not_both (pairs.same p q) (pair_of p q h u v) a))) l) (k.ends p)
             ]) refl);
         ends_ascend = insert_ascends pairs_lawful q x s.ends k.ends_ascend;
-        ended = f ∙ sym (any_append (λ h. marks h) r (marked m e ∷ []) ∙ ap (λ z. any (λ h. marks h) r || (z || false)) (marked_marks m e) ∙ ap (λ z. any (λ h. marks h) r || z) (or_false (is_some m)));
+        ended = f ∙ sym (any_append (λ h. marks h) r (marked m e ∷ []) ∙ ap (λ z. list_any (λ h. marks h) r || (z || false)) (marked_marks m e) ∙ ap (λ z. list_any (λ h. marks h) r || z) (or_false (is_some m)));
       }
 
   -- ---- the group's open sets
@@ -213,36 +215,35 @@ module _ {X : Type 0} where
       ]) (and_right (of_group g h) _ b))
 
   kept_own : (m : Option ℕ) (g : Guid) (z : ℤ) (e : Entry X) (l : List (Entry X)) → of_group g e ≡ true → e.set ≡ Some z
-      → keep (λ h. in_set g z h) (keep_end m e l) ≡ keep (λ h. not (is_pair_end (e.writer, e.reader) h)) (keep (λ h. in_set g z h) l) ++ (marked m e ∷ [])
+      → filter (λ h. in_set g z h) (keep_end m e l) ≡ filter (λ h. not (is_pair_end (e.writer, e.reader) h)) (filter (λ h. in_set g z h) l) ++ (marked m e ∷ [])
   unfolding keep_end
   kept_own m g z e l o d =
-      keep_first (λ h. in_set g z h) (keep (λ h. not (replaced e h)) l) (marked m e) (marked_set m g z e ∙ in_own g z e o d)
+      keep_first (λ h. in_set g z h) (filter (λ h. not (replaced e h)) l) (marked m e) (marked_set m g z e ∙ in_own g z e o d)
       ∙ ap (λ r. r ++ (marked m e ∷ []))
       (keep_keep (λ h. in_set g z h) (λ h. not (replaced e h)) l
       ∙ keep_same (λ h. not (replaced e h) && in_set g z h) (λ h. in_set g z h && not (is_pair_end (e.writer, e.reader) h)) (λ h. ap (λ b. not b && in_set g z h) (replaced_in g z e h o d) ∙ and_swap_not (in_set g z h) (is_pair_end (e.writer, e.reader) h)) l
       ∙ sym (keep_keep (λ h. not (is_pair_end (e.writer, e.reader) h)) (λ h. in_set g z h) l))
 
   kept_other : (m : Option ℕ) (g : Guid) (z y : ℤ) (e : Entry X) (l : List (Entry X)) → of_group g e ≡ true → e.set ≡ Some z → eq_z y z ≡ false
-      → keep (λ h. in_set g y h) (keep_end m e l) ≡ keep (λ h. in_set g y h) l
+      → filter (λ h. in_set g y h) (keep_end m e l) ≡ filter (λ h. in_set g y h) l
   unfolding keep_end
   kept_other m g z y e l o d a =
-      keep_last (λ h. in_set g y h) (keep (λ h. not (replaced e h)) l) (marked m e) (marked_set m g y e ∙ in_other g z y e d a)
+      keep_last (λ h. in_set g y h) (filter (λ h. not (replaced e h)) l) (marked m e) (marked_set m g y e ∙ in_other g z y e d a)
       ∙ keep_under (λ h. not (replaced e h)) (λ h. in_set g y h) (λ h b. ap not (replaced_in g z e h o d ∙ ap (λ c. c && is_pair_end (e.writer, e.reader) h) (one_set g z y h a b))) l
 
-  snoc_any : (l : List (Entry X)) (e : Entry X) → any (λ h. true) (l ++ (e ∷ [])) ≡ true
-  unfolding any
+  snoc_any : (l : List (Entry X)) (e : Entry X) → list_any (λ h. true) (l ++ (e ∷ [])) ≡ true
   snoc_any [] e = refl
   snoc_any (h ∷ l) e = refl
 
   pub keep_end_sets : (b : Bool) (mk : Option ℕ) (g : Guid) (z : ℤ) (e : Entry X) (x : SetEnd) (m : List (ℤ × OpenSet X)) (l : List (Entry X)) → of_group g e ≡ true → e.set ≡ Some z → end_w e.what ≡ Some x
-      → b ≡ any (λ h. marks h) (keep (λ h. not (is_pair_end (e.writer, e.reader) h)) (keep (λ h. in_set g z h) l)) || is_some mk
+      → b ≡ list_any (λ h. marks h) (filter (λ h. not (is_pair_end (e.writer, e.reader) h)) (filter (λ h. in_set g z h) l)) || is_some mk
       → SetsLike g m l → SetsLike g (insert numbers z (keeping b e x (or_default no_set (get numbers z m))) m) (keep_end mk e l)
   unfolding numbers
   keep_end_sets b mk g z e x m l o d w f k = record {
     at = λ y. rw (get_insert numbers_lawful y z (keeping b e x (or_default no_set (get numbers z m))) m)
-        ((elim (eq_z y z) as (λ t. eq_z y z ≡ t → SetLike (cond t (Some (keeping b e x (or_default no_set (get numbers z m)))) (get numbers y m)) (keep (λ h. in_set g y h) (keep_end mk e l))) [
+        ((elim (eq_z y z) as (λ t. eq_z y z ≡ t → SetLike (cond t (Some (keeping b e x (or_default no_set (get numbers z m)))) (get numbers y m)) (filter (λ h. in_set g y h) (keep_end mk e l))) [
           | true ↦ λ a. rw (eq_z_eq y z a, kept_own mk g z e l o d)
-              (opened (snoc_any (keep (λ h. not (is_pair_end (e.writer, e.reader) h)) (keep (λ h. in_set g z h) l)) (marked mk e)) (keep_end_like b mk e x (or_default no_set (get numbers z m)) (keep (λ h. in_set g z h) l) w f (set_open (get numbers z m) (keep (λ h. in_set g z h) l) (k.at z))))
+              (opened (snoc_any (filter (λ h. not (is_pair_end (e.writer, e.reader) h)) (filter (λ h. in_set g z h) l)) (marked mk e)) (keep_end_like b mk e x (or_default no_set (get numbers z m)) (filter (λ h. in_set g z h) l) w f (set_open (get numbers z m) (filter (λ h. in_set g z h) l) (k.at z))))
           | false ↦ λ a. rw (kept_other mk g z y e l o d a) (k.at y)
         ]) refl);
     ascend = insert_ascends numbers_lawful z (keeping b e x (or_default no_set (get numbers z m))) m k.ascend;
@@ -273,7 +274,7 @@ module _ {X : Type 0} where
   unfolding keep_end
   keep_end_other mk g h e m l o d k = record {
     at = λ y. rw (
-      keep_last (λ x. in_set h y x) (keep (λ x. not (replaced e x)) l) (marked mk e) (not_in h y (marked mk e) (marked_group mk h e ∙ group_apart g h e o d)),
+      keep_last (λ x. in_set h y x) (filter (λ x. not (replaced e x)) l) (marked mk e) (not_in h y (marked mk e) (marked_group mk h e ∙ group_apart g h e o d)),
       keep_under (λ x. not (replaced e x)) (λ x. in_set h y x) (λ x a. ap not (true_or_false (replaced e x) (λ b. not_both (of_group h x) (in_group h y x a) (group_apart g h x (replaced_group g e x o b) d)))) l,
     ) (k.at y);
     ascend = k.ascend;
@@ -281,12 +282,12 @@ module _ {X : Type 0} where
 
   -- a member joins
   member_open : (e : Entry X) (s : OpenSet X) (l : List (Entry X)) → is_sample e ≡ true → marks e ≡ false → OpenLike s l → OpenLike (with_member (as_entry e) s) (l ++ (e ∷ []))
-  unfolding with_member any is_pair_end
+  unfolding with_member is_pair_end
   member_open e s l i u k = record {
-    members = ap (λ r. r ++ (as_entry e ∷ [])) k.members ∙ sym (ap (λ r. map (λ e. as_entry e) r) (keep_first (λ h. is_sample h) l e i) ∙ map_append (λ e. as_entry e) (keep (λ h. is_sample h) l) (e ∷ []));
+    members = ap (λ r. r ++ (as_entry e ∷ [])) k.members ∙ sym (ap (λ r. map (λ e. as_entry e) r) (keep_first (λ h. is_sample h) l e i) ∙ map_append (λ e. as_entry e) (filter (λ h. is_sample h) l) (e ∷ []));
     ends = λ p. rw (keep_last (λ h. is_pair_end p h) l e (ap (λ b. not b && of_pair p.0 p.1 e) i)) (k.ends p);
     ends_ascend = k.ends_ascend;
-    ended = k.ended ∙ sym (any_append (λ h. marks h) l (e ∷ []) ∙ ap (λ b. any (λ h. marks h) l || (b || false)) u ∙ or_false (any (λ h. marks h) l));
+    ended = k.ended ∙ sym (any_append (λ h. marks h) l (e ∷ []) ∙ ap (λ b. list_any (λ h. marks h) l || (b || false)) u ∙ or_false (list_any (λ h. marks h) l));
   }
 
   pub member_sets : (g : Guid) (z : ℤ) (e : Entry X) (m : List (ℤ × OpenSet X)) (l : List (Entry X)) → of_group g e ≡ true → e.set ≡ Some z → is_sample e ≡ true → marks e ≡ false
@@ -294,20 +295,20 @@ module _ {X : Type 0} where
   unfolding numbers
   member_sets g z e m l o d i u k = record {
     at = λ y. rw (get_insert numbers_lawful y z (with_member (as_entry e) (or_default no_set (get numbers z m))) m)
-        ((elim (eq_z y z) as (λ t. eq_z y z ≡ t → SetLike (cond t (Some (with_member (as_entry e) (or_default no_set (get numbers z m)))) (get numbers y m)) (keep (λ h. in_set g y h) (l ++ (e ∷ [])))) [
+        ((elim (eq_z y z) as (λ t. eq_z y z ≡ t → SetLike (cond t (Some (with_member (as_entry e) (or_default no_set (get numbers z m)))) (get numbers y m)) (filter (λ h. in_set g y h) (l ++ (e ∷ [])))) [
           | true ↦ λ a. rw (eq_z_eq y z a, keep_first (λ h. in_set g z h) l e (in_own g z e o d))
-              (opened (snoc_any (keep (λ h. in_set g z h) l) e) (member_open e (or_default no_set (get numbers z m)) (keep (λ h. in_set g z h) l) i u (set_open (get numbers z m) (keep (λ h. in_set g z h) l) (k.at z))))
+              (opened (snoc_any (filter (λ h. in_set g z h) l) e) (member_open e (or_default no_set (get numbers z m)) (filter (λ h. in_set g z h) l) i u (set_open (get numbers z m) (filter (λ h. in_set g z h) l) (k.at z))))
           | false ↦ λ a. rw (keep_last (λ h. in_set g y h) l e (in_other g z y e d a)) (k.at y)
         ]) refl);
     ascend = insert_ascends numbers_lawful z (with_member (as_entry e) (or_default no_set (get numbers z m))) m k.ascend;
   }
 
   -- a set leaves
-  none_in : (g : Guid) (z : ℤ) (l : List (Entry X)) → keep (λ h. in_set g z h) (without g z l) ≡ []
+  none_in : (g : Guid) (z : ℤ) (l : List (Entry X)) → filter (λ h. in_set g z h) (without g z l) ≡ []
   unfolding without
   none_in g z l = keep_keep (λ h. in_set g z h) (λ h. not (in_set g z h)) l ∙ keep_none (λ h. not (in_set g z h) && in_set g z h) l (any_empty (λ h. not (in_set g z h) && in_set g z h) (λ h. never (in_set g z h)) l)
 
-  unfold_without : (g : Guid) (z y : ℤ) (l : List (Entry X)) → eq_z y z ≡ false → keep (λ h. in_set g y h) (without g z l) ≡ keep (λ h. in_set g y h) l
+  unfold_without : (g : Guid) (z y : ℤ) (l : List (Entry X)) → eq_z y z ≡ false → filter (λ h. in_set g y h) (without g z l) ≡ filter (λ h. in_set g y h) l
   unfolding without
   unfold_without g z y l a = keep_under (λ h. not (in_set g z h)) (λ h. in_set g y h) (λ h b. ap not (one_set g z y h a b)) l
 
@@ -315,7 +316,7 @@ module _ {X : Type 0} where
   unfolding numbers
   remove_sets g z m l k = record {
     at = λ y. rw (get_remove numbers_lawful y z m)
-        ((elim (eq_z y z) as (λ t. eq_z y z ≡ t → SetLike (cond t None (get numbers y m)) (keep (λ h. in_set g y h) (without g z l))) [
+        ((elim (eq_z y z) as (λ t. eq_z y z ≡ t → SetLike (cond t None (get numbers y m)) (filter (λ h. in_set g y h) (without g z l))) [
           | true ↦ λ a. rw (eq_z_eq y z a, none_in g z l) closed
           | false ↦ λ a. rw (unfold_without g z y l a) (k.at y)
         ]) refl);

@@ -8,11 +8,14 @@ use native.Mathlib.Omega.{arith}
 use lib.Dec.{ltb, leb}
 use lib.ListN.{length}
 use borrow.Author.Tests.{ltb-true, ltb-false}
-use Rattle.laws.specs.Lists.{keep, all}
+use Rattle.laws.specs.Lists.{filter, list_all}
 use Rattle.guids.specs.Guid.{Guid}
 use Rattle.rules.specs.State.{State, fresh, no_counts}
 use Rattle.rules.specs.Marks.{number}
-use Rattle.rules.specs.Offer.{Offer, Heartbeat, Gap, refusal}
+use Rattle.rules.specs.Offer.{refusal}
+use Rattle.rules.specs.declared.call.Offer.{Offer}
+use Rattle.rules.specs.declared.call.Heartbeat.{Heartbeat}
+use Rattle.rules.specs.declared.call.Gap.{Gap}
 use Rattle.rules.specs.Offer as F
 use Rattle.rules.specs.Release.{View, malformed}
 use Rattle.rules.specs.Release as R
@@ -24,7 +27,8 @@ use Rattle.laws.proofs.Lists.{and_true, and_left, and_right}
 use Rattle.rules.proofs.Reached.{refusal_first, step_reached, fresh_reached}
 use Rattle.source_model.specs.Claim.{cut, cut_counts, below, as_counts, along, each_returns, step_returns, run_returns, SameRun}
 use Rattle.source_model.specs.Map.{get, ascends}
-use Rattle.source_model.specs.Source.{GroupOrder, ReleaseCounts, no_group, none_counted, new, held_for, is_empty, Did, offer_to, offer_does, offer, heartbeat, gap, release}
+use Rattle.rules.specs.declared.state.ReleaseCounts.{ReleaseCounts}
+use Rattle.source_model.specs.Source.{GroupOrder, no_group, none_counted, new, held_for, is_empty, Did, offer_to, offer_does, offer, heartbeat, gap, release}
 use Rattle.source_model.specs.Source as S
 use Rattle.source_model.specs.Calls.{Told, told_offered, told_released, told, end_w, item_w, group_info, entry_of, view_of, group_at, ninth, pair33, stored, fate_of, adds, offer_refusal, offer_unless, done_unless, release_unless, step, run, answers, info_of}
 use Rattle.source_model.proofs.Like.{closed, unknown, GroupLike, Like, offer_entry}
@@ -195,7 +199,7 @@ module _ {X : Type 0} where
   step_returns_lem turns f o s (releases now v rs) l r = release_back o s l turns now v f (few s r)
 
   pub fresh_group : (g : Guid) → GroupLike {X = X} g no_group [] [] []
-  unfolding no_group number keep get ascends
+  unfolding no_group number get ascends
   fresh_group g = record {
     committed = refl;
     announced = refl;
@@ -205,7 +209,7 @@ module _ {X : Type 0} where
   }
 
   pub fresh_like : (t : ℕ) → Like {X = X} (bare_order (new t)) (fresh t)
-  unfolding new fresh get ascends all none_counted no_counts cut_counts cut bare_order over
+  unfolding new fresh get ascends none_counted no_counts cut_counts cut bare_order over
   fresh_like t = record {
     groups = refl;
     ascend = refl;

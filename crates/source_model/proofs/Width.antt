@@ -11,15 +11,19 @@ use lib.Signed.{lt_z, le_z}
 use lib.Dec.{ltb}
 use lib.ListN.{length}
 use borrow.Author.Tests.{ltb-true, lt-ltb, leb-false, le-leb, le-ltb}
-use Rattle.laws.specs.Lists.{keep, all, find}
+use Rattle.laws.specs.Lists.{filter, list_all, find}
 use Rattle.guids.specs.Guid.{Guid}
-use Rattle.rules.specs.Entry.{What, sample, set_end}
-use Rattle.rules.specs.Offer.{Offer, refusal}
+use Rattle.rules.specs.Entry.{set_end}
+use Rattle.rules.specs.declared.entry.What.{What}
+use Rattle.rules.specs.declared.entry.What.TheVariants.{Sample, End}
+use Rattle.rules.specs.Offer.{refusal}
+use Rattle.rules.specs.declared.call.Offer.{Offer}
 use Rattle.rules.specs.Release.{View, malformed}
 use Rattle.rules.specs.Run.{Call, offers, heartbeats, gaps, releases}
 use Rattle.laws.proofs.Lists.{and_true, and_left, and_right, all_keep, all_imp, all_and, all_both, not_both}
 use Rattle.source_model.specs.Map.{Order, guids, numbers, or_default, get, insert, entry, remove, ascends}
-use Rattle.source_model.specs.Source.{SetEnd, Entry, Progress, OpenSet, no_set, Group, no_group, GroupView, GroupOrder, ReleaseCounts, HeartbeatInfo, sees, heard, gap_to, first_of, new, with_writer, pushed, with_sets, with_end, did_push, join_or, joins, offer_to, group_of, offer_does, offer_entry, offer, announce, heartbeat, gap, Loop, with_member, ended, take_in, commit_to, commit, complete, finish_if, finish_set, stale, drop_if, drop_all, commit_each, taken, take_next, take_if, is_ready, waited, as_u64, at_head, all_ends, finish_or, at_ended, turn, or_return, release_group, release_each, release}
+use Rattle.rules.specs.declared.state.ReleaseCounts.{ReleaseCounts}
+use Rattle.source_model.specs.Source.{SetEnd, Entry, Progress, OpenSet, no_set, Group, no_group, GroupView, GroupOrder, HeartbeatInfo, sees, heard, gap_to, first_of, new, with_writer, pushed, with_sets, with_end, did_push, join_or, joins, offer_to, group_of, offer_does, offer_entry, offer, announce, heartbeat, gap, Loop, with_member, ended, take_in, commit_to, commit, complete, finish_if, finish_set, stale, drop_if, drop_all, commit_each, taken, take_next, take_if, is_ready, waited, as_u64, at_head, all_ends, finish_or, at_ended, turn, or_return, release_group, release_each, release}
 use Rattle.source_model.specs.Calls.{end_w, item_w, group_info, entry_of, info_of, view_of, ninth, pair33, samples, offer_refusal, offer_unless, done_unless, release_unless, step}
 use Rattle.source_model.specs.Width.{is_i64, end_fits, head_fits, set_fits, at_fits, turn_fits, if_goes, loop_fits, each_fits, what_fits, call_fits, step_fits, run_fits}
 use Rattle.source_model.proofs.Maps.{Lawful, numbers_lawful, pairs_lawful, insert_all, insert_ascends, remove_ascends}
@@ -34,7 +38,7 @@ module _ {I : Type 0} where
   entry_fits e = brings_fit e.at_end
 
   unfoldable pub entries_fit : List (Entry I) → Bool
-  entries_fit v = all (λ e. entry_fits e) v
+  entries_fit v = list_all (λ e. entry_fits e) v
 
 -- between committed and 2^63
 unfoldable pub in_range : ℤ → ℤ → Bool
@@ -43,10 +47,10 @@ in_range c n = lt_z c n && lt_z n (pos (2 ^ 63))
 -- committed is not negative, the pending numbers lie above it and below 2^63, and every end's distance fits
 pub record Fit {I : Type 0} (g : Group I) : Type 0 where
   pub committed : le_z (pos 0) g.committed ≡ true
-  pub range : all (λ x. in_range g.committed x.0) g.pending ≡ true
+  pub range : list_all (λ x. in_range g.committed x.0) g.pending ≡ true
   pub ascend : ascends numbers g.pending ≡ true
-  pub entries : all (λ x. entries_fit x.1) g.pending ≡ true
-  pub sets : all (λ x. set_fits x.1) g.sets ≡ true
+  pub entries : list_all (λ x. entries_fit x.1) g.pending ≡ true
+  pub sets : list_all (λ x. set_fits x.1) g.sets ≡ true
 
 -- ---- whole numbers
 
@@ -79,27 +83,27 @@ head_fits_lem (pos c) (pos n) d e f =
     (le-leb (c + 1) n (omega (arith, u)))
 
 no_set_lem : (I : Type 0) → set_fits (no_set {I = I}) ≡ true
-unfolding set_fits no_set all
+unfolding set_fits no_set
 no_set_lem I = refl
 
 nothing_fits : (I : Type 0) → entries_fit {I = I} [] ≡ true
-unfolding entries_fit all
+unfolding entries_fit
 nothing_fits I = refl
 
 -- ---- maps
 
 module _ {K A : Type 0} {o : Order K} (lo : Lawful o) where
-  get_all : (q : A → Bool) (d : A) (k : K) (m : List (K × A)) → q d ≡ true → all (λ x. q x.1) m ≡ true → q (or_default d (get o k m)) ≡ true
-  unfolding get all
+  get_all : (q : A → Bool) (d : A) (k : K) (m : List (K × A)) → q d ≡ true → list_all (λ x. q x.1) m ≡ true → q (or_default d (get o k m)) ≡ true
+  unfolding get
   get_all q d k [] e h = e
   get_all q d k (x ∷ m) e h = elim (o.same k x.0) as (λ b. q (or_default d (cond b (Some x.1) (get o k m))) ≡ true) [ true ↦ and_left (q x.1) _ h | false ↦ get_all q d k m e (and_right (q x.1) _ h) ]
 
   -- what is left behind the first
-  rest_above : (x : K × A) (m : List (K × A)) → ascends o (x ∷ m) ≡ true → all (λ y. o.less x.0 y.0) (remove o x.0 (x ∷ m)) ≡ true
-  unfolding ascends remove keep
-  rest_above x m e = rw (lo.same_self x.0) (all_keep (λ y. o.less x.0 y.0) (λ y. not (o.same x.0 y.0)) m (and_left (all (λ y. o.less x.0 y.0) m) _ e))
+  rest_above : (x : K × A) (m : List (K × A)) → ascends o (x ∷ m) ≡ true → list_all (λ y. o.less x.0 y.0) (remove o x.0 (x ∷ m)) ≡ true
+  unfolding ascends remove
+  rest_above x m e = rw (lo.same_self x.0) (all_keep (λ y. o.less x.0 y.0) (λ y. not (o.same x.0 y.0)) m (and_left (list_all (λ y. o.less x.0 y.0) m) _ e))
 
-  remove_all : (p : K × A → Bool) (k : K) (m : List (K × A)) → all p m ≡ true → all p (remove o k m) ≡ true
+  remove_all : (p : K × A → Bool) (k : K) (m : List (K × A)) → list_all p m ≡ true → list_all p (remove o k m) ≡ true
   unfolding remove
   remove_all p k m e = all_keep p (λ x. not (o.same k x.0)) m e
 
@@ -115,10 +119,10 @@ module _ {I : Type 0} where
   announce_fit c g h = record { committed = h.committed; range = h.range; ascend = h.ascend; entries = h.entries; sets = h.sets }
 
   none_fit : Fit {I = I} no_group
-  unfolding no_group all ascends
+  unfolding no_group ascends
   none_fit = record { committed = refl; range = refl; ascend = refl; entries = refl; sets = refl }
 
-  with_sets_lem : (m : List (ℤ × OpenSet I)) (g : Group I) → all (λ x. set_fits x.1) m ≡ true → Fit g → Fit (with_sets m g)
+  with_sets_lem : (m : List (ℤ × OpenSet I)) (g : Group I) → list_all (λ x. set_fits x.1) m ≡ true → Fit g → Fit (with_sets m g)
   unfolding with_sets
   with_sets_lem m g e h = record { committed = h.committed; range = h.range; ascend = h.ascend; entries = h.entries; sets = e }
 
@@ -143,7 +147,7 @@ module _ {I : Type 0} where
   -- ---- offer
 
   snoc_fits : (v : List (Entry I)) (e : Entry I) → entries_fit v ≡ true → entry_fits e ≡ true → entries_fit (v ++ (e ∷ [])) ≡ true
-  unfolding entries_fit all
+  unfolding entries_fit
   snoc_fits v e h d = all_both (λ e. entry_fits e) v (e ∷ []) h (and_true (entry_fits e) true d refl)
 
   pushed_fit : (e : Entry I) (g : Group I) → lt_z g.committed e.info.gsn ≡ true → lt_z e.info.gsn (pos (2 ^ 63)) ≡ true → entry_fits e ≡ true → Fit g → Fit (pushed e g)
@@ -162,8 +166,8 @@ module _ {I : Type 0} where
   is_fit None = true
   is_fit (Some s) = set_fits s
 
-  get_fit : (z : ℤ) (m : List (ℤ × OpenSet I)) → all (λ x. set_fits x.1) m ≡ true → is_fit (get numbers z m) ≡ true
-  unfolding get all
+  get_fit : (z : ℤ) (m : List (ℤ × OpenSet I)) → list_all (λ x. set_fits x.1) m ≡ true → is_fit (get numbers z m) ≡ true
+  unfolding get
   get_fit z [] h = refl
   get_fit z (x ∷ m) h = elim (numbers.same z x.0) as (λ b. is_fit (cond b (Some x.1) (get numbers z m)) ≡ true) [ true ↦ and_left (set_fits x.1) _ h | false ↦ get_fit z m (and_right (set_fits x.1) _ h) ]
 
@@ -204,20 +208,20 @@ module _ {I : Type 0} where
       (insert_all numbers_lawful (λ x. set_fits x.1) z (take_in e e.at_end s) l.group.sets (taken_in e e.at_end s d (get_all numbers_lawful (λ s. set_fits s) no_set z l.group.sets (no_set_lem I) h.sets)) h.sets) h
 
   commits_fit : (es : List (Entry I)) (l : Loop I) → entries_fit es ≡ true → Fit l.group → Fit (commit_each es l).group
-  unfolding commit_each entries_fit all commit entry_fits
+  unfolding commit_each entries_fit commit entry_fits
   commits_fit [] l d h = h
   commits_fit (e ∷ es) l d h =
       commits_fit es (commit e (drop_all (stale e l.group.sets) l)) (and_right (brings_fit e.at_end) _ d)
       (commit_to_fit e.info.coherent_set_gsn e (drop_all (stale e l.group.sets) l) (and_left (brings_fit e.at_end) _ d) (drops_fit (stale e l.group.sets) l h))
 
-  first_range : (c : ℤ) (x : ℤ × List (Entry I)) (m p : List (ℤ × List (Entry I))) → p ≡ x ∷ m → all (λ x. in_range c x.0) p ≡ true → (lt_z c x.0 ≡ true) × (lt_z x.0 (pos (2 ^ 63)) ≡ true)
-  unfolding all in_range
+  first_range : (c : ℤ) (x : ℤ × List (Entry I)) (m p : List (ℤ × List (Entry I))) → p ≡ x ∷ m → list_all (λ x. in_range c x.0) p ≡ true → (lt_z c x.0 ≡ true) × (lt_z x.0 (pos (2 ^ 63)) ≡ true)
+  unfolding in_range
   first_range c x m p e h =
-      let a : (lt_z c x.0 && lt_z x.0 (pos (2 ^ 63))) && all (λ x. in_range c x.0) m ≡ true = sym (ap (λ q. all (λ x. in_range c x.0) q) e) ∙ h in
+      let a : (lt_z c x.0 && lt_z x.0 (pos (2 ^ 63))) && list_all (λ x. in_range c x.0) m ≡ true = sym (ap (λ q. list_all (λ x. in_range c x.0) q) e) ∙ h in
       let b = and_left (lt_z c x.0 && lt_z x.0 (pos (2 ^ 63))) _ a in
       (and_left (lt_z c x.0) _ b, and_right (lt_z c x.0) _ b)
 
-  rest_range : (c : ℤ) (x : ℤ × List (Entry I)) (m p : List (ℤ × List (Entry I))) → p ≡ x ∷ m → ascends numbers p ≡ true → all (λ x. in_range c x.0) p ≡ true → all (λ y. in_range x.0 y.0) (remove numbers x.0 p) ≡ true
+  rest_range : (c : ℤ) (x : ℤ × List (Entry I)) (m p : List (ℤ × List (Entry I))) → p ≡ x ∷ m → ascends numbers p ≡ true → list_all (λ x. in_range c x.0) p ≡ true → list_all (λ y. in_range x.0 y.0) (remove numbers x.0 p) ≡ true
   unfolding in_range numbers
   rest_range c x m p e a h =
       all_and (λ y. lt_z x.0 y.0) (λ y. lt_z y.0 (pos (2 ^ 63))) (remove numbers x.0 p)
@@ -343,8 +347,8 @@ module _ {I : Type 0} where
 
 what_fits_lem : {X : Type 0} (w : What X) → what_fits w ≡ true → brings_fit (end_w w) ≡ true
 unfolding end_fits
-what_fits_lem (sample x) h = refl
-what_fits_lem (set_end f o) h = h
+what_fits_lem (Sample x) h = refl
+what_fits_lem (End u) h = h
 
 module _ {X : Type 0} where
   entry_fits_lem : (x : Offer X) → what_fits x.what ≡ true → entry_fits (entry_of x) ≡ true
@@ -404,13 +408,13 @@ module _ {X : Type 0} where
   step_fits_lem turns o (gaps x) h = refl
   step_fits_lem turns o (releases now v l) h = each_fits_lem turns (view_of v) now o.timeout o.groups [] o.counts h
 
-  from_fits : (turns : ℕ) (cs : List (Call X)) (o : GroupOrder X) → all (λ c. call_fits c) cs ≡ true → Fits o.groups → run_fits turns o cs ≡ true
-  unfolding run_fits all
+  from_fits : (turns : ℕ) (cs : List (Call X)) (o : GroupOrder X) → list_all (λ c. call_fits c) cs ≡ true → Fits o.groups → run_fits turns o cs ≡ true
+  unfolding run_fits
   from_fits turns [] o e h = refl
   from_fits turns (c ∷ cs) o e h =
       and_true (step_fits turns o c) _ (step_fits_lem turns o c h) (from_fits turns cs (step turns o c).1 (and_right (call_fits c) _ e) (step_fit turns o c (and_left (call_fits c) _ e) h))
 
   -- at every turn of every release of a run whose offers bring such numbers and ends, what the source computes is an i64
-  pub run_fits_lem : (turns t : ℕ) (cs : List (Call X)) → all (λ c. call_fits c) cs ≡ true → run_fits turns (new t) cs ≡ true
+  pub run_fits_lem : (turns t : ℕ) (cs : List (Call X)) → list_all (λ c. call_fits c) cs ≡ true → run_fits turns (new t) cs ≡ true
   unfolding new Fits
   run_fits_lem turns t cs e = from_fits turns cs (new t) e tt

@@ -4,21 +4,24 @@ use mathlib.Core.Path.{◌≡◌, refl}
 use mathlib.Core.List.{List, [], ◌∷◌}
 use Rattle.std.specs.Prelude.{Some, None}
 use lib.IntN.{pos, negsuc}
-use Rattle.laws.specs.Lists.{keep, all, any, count, find, is_some}
+use Rattle.laws.specs.Lists.{filter, list_all, list_any, count, find, is_some}
 use Rattle.guids.specs.Guid.{compare_guid, same_guid, before}
 use Rattle.rules.specs.Commit.{accepted, secure_accepted}
-use Rattle.rules.specs.Offer.{Fate, is_stored, is_joined, is_late, refusal}
+use Rattle.rules.specs.Offer.{refusal}
+use Rattle.rules.specs.declared.call.Fate.{Fate}
+use Rattle.rules.specs.declared.call.Fate.TheVariants.{Stored, Joined, Late}
 use Rattle.rules.specs.Release.{View, malformed}
 use Rattle.rules.specs.Run.{Call}
 use Rattle.rules.proofs.Figures.{S, E, H, G, R, C, D, view, nobody, Line, ok, stored', joined', late', refused', out'}
 use Rattle.source_model.specs.Map.{guids, numbers, readers, pairs, get, insert, entry, remove, put, collect}
-use Rattle.source_model.specs.Source.{ReleaseCounts, GroupOrder, no_progress, is_past, no_set, no_group, none_counted, sum_of, sees, heard, gap_to, with_writer, pushed, with_sets, with_end, offer_to, late, offer_does, offer_entry, offer, announce, heartbeat, gap, new, walk, set_known, passable, copies_arrived, with_member, ended, commit, items, discarding, complete, finish_set, stale, drop_all, commit_each, skips, taken, take_next, is_ready, all_ends, turn, release_group, release_each, release}
+use Rattle.rules.specs.declared.state.ReleaseCounts.{ReleaseCounts}
+use Rattle.source_model.specs.Source.{GroupOrder, no_progress, is_past, no_set, no_group, none_counted, sum_of, sees, heard, gap_to, with_writer, pushed, with_sets, with_end, offer_to, late, offer_does, offer_entry, offer, announce, heartbeat, gap, new, walk, set_known, passable, copies_arrived, with_member, ended, commit, items, discarding, complete, finish_set, stale, drop_all, commit_each, skips, taken, take_next, is_ready, all_ends, turn, release_group, release_each, release}
 use Rattle.source_model.specs.Calls.{Told, told_refused, told_done, told_offered, told_released, info_of, group_info, entry_of, view_of, group_at, ninth, pair33, stored_in, stored, samples_in, samples, offer_refusal, step}
 
 abbrev line_f : Fate → Line
-line_f is_stored = stored'
-line_f is_joined = joined'
-line_f is_late = late'
+line_f Stored = stored'
+line_f Joined = joined'
+line_f Late = late'
 
 abbrev line : Told ℕ → ReleaseCounts → Line
 line (told_refused n) c = refused' n
@@ -32,7 +35,7 @@ prints_from s (c ∷ cs) = line (step 513 s c).0 (step 513 s c).1.counts ∷ pri
 
 -- what a list prints from a fresh start with a timeout
 unfoldable pub prints : ℕ → List (Call ℕ) → List Line
-unfolding prints_from keep all any count find is_some compare_guid same_guid before accepted secure_accepted refusal malformed guids numbers readers pairs get insert entry remove put collect no_progress is_past no_set no_group none_counted sum_of sees heard gap_to with_writer pushed with_sets with_end offer_to late offer_does offer_entry offer announce heartbeat gap new walk set_known passable copies_arrived with_member ended commit items discarding complete finish_set stale drop_all commit_each skips taken take_next is_ready all_ends turn release_group release_each release info_of group_info entry_of view_of group_at ninth pair33 stored_in stored samples_in samples offer_refusal step
+unfolding prints_from count is_some compare_guid same_guid before accepted secure_accepted refusal malformed guids numbers readers pairs get insert entry remove put collect no_progress is_past no_set no_group none_counted sum_of sees heard gap_to with_writer pushed with_sets with_end offer_to late offer_does offer_entry offer announce heartbeat gap new walk set_known passable copies_arrived with_member ended commit items discarding complete finish_set stale drop_all commit_each skips taken take_next is_ready all_ends turn release_group release_each release info_of group_info entry_of view_of group_at ninth pair33 stored_in stored samples_in samples offer_refusal step
 prints t cs = prints_from (new t) cs
 
 -- document 01's list

@@ -1,11 +1,17 @@
 -- The calls of document 01 on the model: its refusals around the functions of the source, and what a call answers.
 use Rattle.std.specs.Prelude.{ℕ, ◌+◌, Bool, true, false, ◌&&◌, not, List, [], ◌∷◌, map, ℤ, ltb, leb, length}
 use Rattle.std.specs.Prelude.{Option, Some, None}
-use Rattle.laws.specs.Lists.{keep, count, is_some}
+use Rattle.laws.specs.Lists.{filter, count, is_some}
 use Rattle.guids.specs.Guid.{Guid, same_guid}
-use Rattle.rules.specs.Entry.{What, sample, set_end}
-use Rattle.rules.specs.Entry as F
-use Rattle.rules.specs.Offer.{Offer, Heartbeat, Fate, is_stored, is_joined, is_late, refusal}
+use Rattle.rules.specs.Entry.{set_end}
+use Rattle.rules.specs.declared.entry.What.{What}
+use Rattle.rules.specs.declared.entry.What.TheVariants.{Sample, End}
+use Rattle.rules.specs.declared.entry.Entry as F
+use Rattle.rules.specs.Offer.{refusal}
+use Rattle.rules.specs.declared.call.Offer.{Offer}
+use Rattle.rules.specs.declared.call.Heartbeat.{Heartbeat}
+use Rattle.rules.specs.declared.call.Fate.{Fate}
+use Rattle.rules.specs.declared.call.Fate.TheVariants.{Stored, Joined, Late}
 use Rattle.rules.specs.Commit.{accepted, secure_accepted}
 use Rattle.rules.specs.Release.{View, malformed}
 use Rattle.rules.specs.Run.{Call, offers, heartbeats, gaps, releases, Said, is_refused, is_offered, is_done, is_released}
@@ -14,12 +20,12 @@ use Rattle.source_model.specs.Source.{SetEnd, Info, Entry, HeartbeatInfo, no_set
 
 -- an offer brings a sample or an end, never both
 abbrev pub end_w : {X : Type 0} → What X → Option SetEnd
-end_w (sample x) = None
-end_w (set_end f o) = Some (record { first_sn = f; ecs_sn = o })
+end_w (Sample x) = None
+end_w (End u) = Some (record { first_sn = u.first; ecs_sn = u.own })
 
 abbrev pub item_w : {X : Type 0} → What X → Option X
-item_w (sample x) = Some x
-item_w (set_end f o) = None
+item_w (Sample x) = Some x
+item_w (End u) = None
 
 unfoldable pub info_of : Heartbeat → HeartbeatInfo
 info_of h = record { first_gsn = h.first; last_gsn = h.last; current_gsn = h.current; writer_set = h.digest; secure_writer_set = h.secure }
@@ -27,7 +33,7 @@ info_of h = record { first_gsn = h.first; last_gsn = h.last; current_gsn = h.cur
 -- the view's answers from document 01's rows and its stand-in for the digest's type
 unfoldable pub view_of : View → GroupView
 view_of v = record {
-  counted = λ g. collect pairs (map (λ p. (p.writer, p.reader)) (keep (λ p. same_guid g p.group) v.counted));
+  counted = λ g. collect pairs (map (λ p. (p.writer, p.reader)) (filter (λ p. same_guid g p.group) v.counted));
   writer_set_is_discovered = λ g d. accepted g v.digests (Some d);
   secure_writer_set_is_discovered = λ g d. secure_accepted (Some d);
 }
@@ -70,9 +76,9 @@ module _ {X : Type 0} where
   samples o = sum_of (λ x. samples_in x.1) o.groups
 
   abbrev pub fate_of : Did X → Fate
-  fate_of (did_push g) = is_stored
-  fate_of (did_join g) = is_joined
-  fate_of (did_count g) = is_late
+  fate_of (did_push g) = Stored
+  fate_of (did_join g) = Joined
+  fate_of (did_count g) = Late
 
   -- the pair has no end yet in the set
   abbrev pub new_end : Entry X → Group X → Option ℤ → Bool

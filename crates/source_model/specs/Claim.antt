@@ -2,25 +2,26 @@
 use Rattle.std.specs.Prelude.{ℕ, ◌-◌, ◌^◌, min, ◌≡◌, Bool, true, ◌&&◌, not, List, [], ◌∷◌, map, ltb}
 use Rattle.laws.specs.Lists.{is_some}
 use Rattle.guids.specs.Guid.{Guid}
-use Rattle.rules.specs.State.{State, Counts, fresh}
+use Rattle.rules.specs.State.{State, fresh}
+use Rattle.rules.specs.declared.state.ReleaseCounts.{ReleaseCounts}
 use Rattle.rules.specs.Run.{Call, offers, heartbeats, gaps, releases, waiting, nothing_waits}
 use Rattle.rules.specs.Run as D
-use Rattle.source_model.specs.Source.{Group, GroupView, GroupOrder, ReleaseCounts, new, held_for, is_empty, Loop, turn, release_group}
+use Rattle.source_model.specs.Source.{Group, GroupView, GroupOrder, new, held_for, is_empty, Loop, turn, release_group}
 use Rattle.source_model.specs.Calls.{view_of, told, step, run, answers}
 
 -- counts stop at 2^64 − 1
 unfoldable pub cut : ℕ → ℕ
 cut n = min n (2 ^ 64 - 1)
 
-unfoldable pub cut_counts : ReleaseCounts → Counts
-cut_counts c = record { skipped = cut c.skipped_after_timeout; incomplete = cut c.incomplete_sets; discarded = cut c.discarded_samples; late = cut c.late_samples }
+unfoldable pub cut_counts : ReleaseCounts → ReleaseCounts
+cut_counts c = record { skipped_after_timeout = cut c.skipped_after_timeout; incomplete_sets = cut c.incomplete_sets; discarded_samples = cut c.discarded_samples; late_samples = cut c.late_samples }
 
 -- counts below 2^64
 unfoldable pub below : ReleaseCounts → Bool
 below c = ltb c.skipped_after_timeout (2 ^ 64) && ltb c.incomplete_sets (2 ^ 64) && ltb c.discarded_samples (2 ^ 64) && ltb c.late_samples (2 ^ 64)
 
-unfoldable pub as_counts : ReleaseCounts → Counts
-as_counts c = record { skipped = c.skipped_after_timeout; incomplete = c.incomplete_sets; discarded = c.discarded_samples; late = c.late_samples }
+unfoldable pub as_counts : ReleaseCounts → ReleaseCounts
+as_counts c = record { skipped_after_timeout = c.skipped_after_timeout; incomplete_sets = c.incomplete_sets; discarded_samples = c.discarded_samples; late_samples = c.late_samples }
 
 -- a test of a call and the state that it meets, asked of every call of the definitions' run
 unfoldable pub along : {X : Type 0} → (State X → Call X → Bool) → State X → List (Call X) → Bool

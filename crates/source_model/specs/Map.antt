@@ -3,7 +3,7 @@ use Rattle.std.specs.Prelude.{ℕ, Bool, true, ◌&&◌, ◌||◌, not, cond, Li
 use Rattle.std.specs.Prelude.{Option, Some, None}
 use Rattle.std.specs.Int.Signed.{lt_z}
 use Rattle.laws.specs.Whole.{eq_z}
-use Rattle.laws.specs.Lists.{keep, all}
+use Rattle.laws.specs.Lists.{filter, list_all}
 use Rattle.guids.specs.Guid.{Guid, same_guid, before}
 
 -- Ord of a key's type
@@ -47,11 +47,11 @@ module _ {K A : Type 0} (o : Order K) where
   entry d k f m = insert k (f (or_default d (get k m))) m
 
   unfoldable pub remove : K → List (K × A) → List (K × A)
-  remove k m = keep (λ x. not (o.same k x.0)) m
+  remove k m = filter (λ x. not (o.same k x.0)) m
 
   unfoldable pub ascends : List (K × A) → Bool
   ascends [] = true
-  ascends (x ∷ m) = all (λ y. o.less x.0 y.0) m && ascends m
+  ascends (x ∷ m) = list_all (λ y. o.less x.0 y.0) m && ascends m
 
 -- BTreeSet
 module _ {K : Type 0} (o : Order K) where

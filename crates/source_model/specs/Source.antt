@@ -3,11 +3,12 @@
 -- `loop` gets a number of turns (from 513 on any number gives the same, and it has returned: Claim.antt, returns);
 -- the end of a pair that is absent from a set does not agree (the source asks only where all ends are there: proofs/Unasked.antt);
 -- `offer` also says what it did (Did); readers and digests are numbers, and a time is a number of nanoseconds.
+use Rattle.rules.specs.declared.state.ReleaseCounts.{ReleaseCounts}
 use Rattle.std.specs.Prelude.{ℕ, zero, suc, ◌+◌, ◌-◌, Bool, true, false, ◌&&◌, ◌||◌, not, cond, List, [], ◌∷◌, ◌++◌, map, ℤ, pos, negsuc, ◌+ℤ◌, ◌-ℤ◌, ltb, eqb, length}
 use Rattle.std.specs.Prelude.{Option, Some, None}
 use Rattle.std.specs.Int.Signed.{lt_z, le_z}
 use Rattle.laws.specs.Whole.{eq_z}
-use Rattle.laws.specs.Lists.{keep, all, any, count, find, is_some}
+use Rattle.laws.specs.Lists.{filter, list_all, list_any, count, find, is_some}
 use Rattle.guids.specs.Guid.{Guid, same_guid}
 use Rattle.source_model.specs.Map.{guids, numbers, readers, pairs, or_default, get, insert, entry, remove}
 
@@ -84,12 +85,6 @@ unfoldable pub no_group : {I : Type 0} → Group I
 no_group = record { committed = pos 0; pending = []; writers = []; current_gsn = pos 0; sets = [] }
 
 -- struct ReleaseCounts
-pub record ReleaseCounts : Type 0 where
-  pub skipped_after_timeout : ℕ
-  pub incomplete_sets : ℕ
-  pub discarded_samples : ℕ
-  pub late_samples : ℕ
-
 unfoldable pub none_counted : ReleaseCounts
 none_counted = record { skipped_after_timeout = 0; incomplete_sets = 0; discarded_samples = 0; late_samples = 0 }
 
@@ -204,7 +199,7 @@ module _ {I : Type 0} where
 
   unfoldable pub is_empty : GroupOrder I → Bool
   is_empty o =
-      all (λ x. eqb (length x.1.pending) 0 && all (λ s. eqb (length s.1.members) 0) x.1.sets) o.groups
+      list_all (λ x. eqb (length x.1.pending) 0 && list_all (λ s. eqb (length s.1.members) 0) x.1.sets) o.groups
 
   -- ---- offer
 
@@ -302,21 +297,21 @@ module _ {I : Type 0} where
 
   unfoldable pub set_known : Guid → Group I → GroupView → Bool
   set_known key g view =
-      all (λ w. not (is_some_and (λ d. not (view.writer_set_is_discovered key d)) w.1.writer_set)) g.writers
-      && all (λ w. not (is_some_and (λ d. not (view.secure_writer_set_is_discovered key d)) w.1.secure_writer_set)) g.writers
+      list_all (λ w. not (is_some_and (λ d. not (view.writer_set_is_discovered key d)) w.1.writer_set)) g.writers
+      && list_all (λ w. not (is_some_and (λ d. not (view.secure_writer_set_is_discovered key d)) w.1.secure_writer_set)) g.writers
 
   unfoldable pub passable : Guid → Group I → GroupView → ℤ → ℤ → Bool
   passable key g view missing next =
       le_z next g.current_gsn && set_known key g view
       && walk missing (as_u64 (next -ℤ missing))
-      (λ gsn. all (λ c. is_some_and (λ p. is_past p c.1 gsn) (get guids c.0 g.writers)) (view.counted key))
+      (λ gsn. list_all (λ c. is_some_and (λ p. is_past p c.1 gsn) (get guids c.0 g.writers)) (view.counted key))
 
   abbrev pub copies_in : Guid → Group I → GroupView → ℤ → Option (List (Entry I)) → Bool
   copies_in key g view gsn None = true
   copies_in key g view gsn (Some entries) =
-      all
-      (λ e. all
-      (λ c. not (same_guid e.writer c.0) || any (λ other. eqb c.1 other.reader) entries
+      list_all
+      (λ e. list_all
+      (λ c. not (same_guid e.writer c.0) || list_any (λ other. eqb c.1 other.reader) entries
       || is_some_and (λ p. is_past p c.1 gsn) (get guids c.0 g.writers))
       (view.counted key))
       entries
@@ -369,7 +364,7 @@ module _ {I : Type 0} where
   unfoldable pub complete : OpenSet I → List (Guid × ℕ) → Bool → Bool
   complete set counted all_ends =
       all_ends
-      && all
+      && list_all
       (λ pair. is_some_and
       (λ x. agrees_with (count (λ m. same_guid pair.0 m.writer && eqb pair.1 m.reader) set.members) x.first_sn x.ecs_sn)
       (get pairs pair set.ends))
@@ -386,7 +381,7 @@ module _ {I : Type 0} where
 
   -- the numbers of the open sets that are not e's and whose end was not committed
   unfoldable pub stale : Entry I → List (ℤ × OpenSet I) → List ℤ
-  stale e sets = map (λ x. x.0) (keep (λ x. not x.1.end_committed && not (is_that x.0 e.info.coherent_set_gsn)) sets)
+  stale e sets = map (λ x. x.0) (filter (λ x. not x.1.end_committed && not (is_that x.0 e.info.coherent_set_gsn)) sets)
 
   abbrev pub drop_if : ℤ → Loop I → Option (OpenSet I) → Loop I
   drop_if first l None = l
@@ -440,7 +435,7 @@ module _ {I : Type 0} where
         x.0 (as_u64 (x.0 -ℤ (l.group.committed +ℤ pos 1))) l
 
     unfoldable pub all_ends : OpenSet I → Bool
-    all_ends set = all (λ pair. is_some (get pairs pair set.ends)) (view.counted key)
+    all_ends set = list_all (λ pair. is_some (get pairs pair set.ends)) (view.counted key)
 
     abbrev pub finish_or : Bool → ℤ → OpenSet I → Loop I → Option (Loop I)
     finish_or true first set l = None

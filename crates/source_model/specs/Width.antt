@@ -3,12 +3,15 @@
 use Rattle.std.specs.Prelude.{ℕ, zero, suc, ◌-◌, ◌^◌, Bool, true, ◌&&◌, List, [], ◌∷◌, ℤ, pos, negsuc, ◌+ℤ◌, ◌-ℤ◌}
 use Rattle.std.specs.Prelude.{Option, Some, None}
 use Rattle.std.specs.Int.Signed.{lt_z, le_z}
-use Rattle.laws.specs.Lists.{all, find}
+use Rattle.laws.specs.Lists.{list_all, find}
 use Rattle.guids.specs.Guid.{Guid}
-use Rattle.rules.specs.Entry.{What, sample, set_end}
+use Rattle.rules.specs.Entry.{set_end}
+use Rattle.rules.specs.declared.entry.What.{What}
+use Rattle.rules.specs.declared.entry.What.TheVariants.{Sample, End}
 use Rattle.rules.specs.Run.{Call, offers, heartbeats, gaps, releases}
 use Rattle.source_model.specs.Map.{numbers, or_default, get}
-use Rattle.source_model.specs.Source.{SetEnd, Entry, OpenSet, no_set, Group, ReleaseCounts, GroupView, GroupOrder, first_of, Loop, turn, release_group}
+use Rattle.rules.specs.declared.state.ReleaseCounts.{ReleaseCounts}
+use Rattle.source_model.specs.Source.{SetEnd, Entry, OpenSet, no_set, Group, GroupView, GroupOrder, first_of, Loop, turn, release_group}
 use Rattle.source_model.specs.Calls.{view_of, step}
 
 -- i64
@@ -32,7 +35,7 @@ module _ {I : Type 0} where
 
   -- ecs − first of every end of the set
   unfoldable pub set_fits : OpenSet I → Bool
-  set_fits s = all (λ e. end_fits e.1) s.ends
+  set_fits s = list_all (λ e. end_fits e.1) s.ends
 
   -- what a turn computes: at an ended set its distances, else at the next number
   unfoldable pub at_fits : Group I → Option (ℤ × OpenSet I) → Bool
@@ -62,8 +65,8 @@ module _ {I : Type 0} where
 
 -- of a call: its number is an i64, and own − first of an end fits
 abbrev pub what_fits : {X : Type 0} → What X → Bool
-what_fits (sample x) = true
-what_fits (set_end f o) = distance_fits f o
+what_fits (Sample x) = true
+what_fits (End u) = distance_fits u.first u.own
 
 module _ {X : Type 0} where
   unfoldable pub call_fits : Call X → Bool

@@ -1,10 +1,91 @@
-// The words of the history's store: its records, its tables, queries on its rows.
+// The history's store: fixed room for the groups, writers and entries that it knows.
 #![tactic(auto)]
 
-pub mod coding;
-pub mod entry;
-pub mod groups;
-pub mod query;
-pub mod rows;
-pub mod words;
-pub mod writers;
+ghost use Rattle.std.specs.Prelude.{◌≡◌, ◌+◌, ◌≤◌, leb};
+ghost use Rattle.arrayvec.specs.ArrayVec.{array_vec_len};
+
+use arrayvec::ArrayVec;
+use rules::entry::Entry;
+use rules::state::{Group, Writer};
+use sets::Sets;
+
+// The groups in the order of their GUIDs, the pending entries in the order of their offers. The timeout is in nanoseconds. At most 256 entries
+// are stored.
+#[derive(Drop)]
+pub struct Store {
+    pub timeout: u64,
+    pub groups: ArrayVec<Group, 8>,
+    pub writers: ArrayVec<Writer, 32>,
+    pub pending: ArrayVec<Entry<u32>, 256>,
+    pub sets: Sets,
+    ghost few: { array_vec_len pending + array_vec_len sets.held ≤ 256 },
+}
+
+impl Store {
+    ghost use Rattle.rules.specs.State.{fresh, stored, committed_of, knows_group, knows_writer};
+    ghost use Rattle.rules.specs.Offer.{ninth, pair33};
+    ghost use Rattle.store.specs.Store.{state_of};
+
+    // Nothing known or stored.
+    #[tactic(auto, unfolding(rules::specs::State::fresh))]
+    pub fn new(timeout: u64) -> Store
+        ensures { state_of result ≡ fresh timeout }
+    {
+        Store {
+            timeout,
+            groups: ArrayVec::new(),
+            writers: ArrayVec::new(),
+            pending: ArrayVec::new(),
+            sets: Sets::new(),
+        }
+    }
+
+    // The group's committed number; 0 of an unknown group.
+    #[tactic(auto, unfolding(rules::specs::State::committed_of, rules::specs::State::committed_in))]
+    pub fn committed_of(&self, group: [u8; 16]) -> u64
+        ensures { result ≡ committed_of group (state_of self.now).groups }
+    {
+        let known = self.groups.as_slice().iter().find(|g| g.is(group));
+        known.map_or(0, |g| g.committed)
+    }
+
+    // Whether the pair of group and writer is known.
+    #[tactic(auto, unfolding(rules::specs::State::knows_writer))]
+    pub fn knows(&self, group: [u8; 16], writer: [u8; 16]) -> bool
+        ensures { result ≡ knows_writer group writer (state_of self.now).writers }
+    {
+        self.writers.as_slice().iter().any(|w| w.is(group, writer))
+    }
+
+    // Whether the group is known.
+    #[tactic(auto, unfolding(rules::specs::State::knows_group))]
+    pub fn knows_group(&self, group: [u8; 16]) -> bool
+        ensures { result ≡ knows_group group (state_of self.now).groups }
+    {
+        self.groups.as_slice().iter().any(|g| g.is(group))
+    }
+
+    // The group would be the ninth.
+    #[tactic(auto, unfolding(rules::specs::Offer::ninth))]
+    pub fn is_ninth(&self, group: [u8; 16]) -> bool
+        ensures { result ≡ ninth group (state_of self.now) }
+    {
+        !self.knows_group(group) && self.groups.is_full()
+    }
+
+    // The pair would be the 33rd.
+    #[tactic(auto, unfolding(rules::specs::Offer::pair33))]
+    pub fn is_33rd(&self, group: [u8; 16], writer: [u8; 16]) -> bool
+        ensures { result ≡ pair33 group writer (state_of self.now) }
+    {
+        !self.knows(group, writer) && self.writers.is_full()
+    }
+
+    // 256 entries are stored.
+    #[tactic(auto, unfolding(rules::specs::State::stored))]
+    pub fn is_full(&self) -> bool
+        ensures { result ≡ leb 256 (stored (state_of self.now)) }
+    {
+        256 <= self.pending.len() + self.sets.held.len()
+    }
+}

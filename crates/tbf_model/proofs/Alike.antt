@@ -12,7 +12,7 @@ use lib.ListN.{length, drop, length-map}
 use borrow.Author.Tests.{ltb-true, lt-ltb, eqb-true, eq-eqb, ne_eqb}
 use Rattle.std.proofs.lemmas.Bool.Decides.{nat_tests}
 use Rattle.laws.specs.Answer.{Answer, refused, answered}
-use Rattle.laws.specs.Lists.{keep, all, any, index_of, is_some}
+use Rattle.laws.specs.Lists.{filter, list_all, list_any, index_of, is_some}
 use Rattle.laws.proofs.Lists.{and_true, and_left, and_right, all_imp, all_map, keep_map}
 use Rattle.filter_hold.specs.Tbf.{not_after, follows, is_of}
 use Rattle.filter_hold.specs.Tbf as D
@@ -51,7 +51,7 @@ time_same at s =
 -- ---- hold
 
 abbrev above : ℕ → Hold → Bool
-above k m = all (λ y. ltb k y.0) m
+above k m = list_all (λ y. ltb k y.0) m
 
 apart : (k : ℕ) (x : ℕ × (ℕ × Time)) → ltb k x.0 ≡ true → is_of k (held_as x) ≡ false
 unfolding is_of held_as
@@ -59,10 +59,10 @@ apart k x e = let h = ltb-true k x.0 e in ne_eqb k x.0 (λ q. omega (arith, h, q
 
 -- none of the instance stands above it
 none_above : (k : ℕ) (m : Hold) → above k m ≡ true → D.supersede k (flat m) ≡ flat m
-unfolding D.supersede keep all
+unfolding D.supersede
 none_above k [] h = refl
 none_above k (x ∷ m) h =
-    ap (λ b. cond (not b) (held_as x ∷ keep (λ x. not (is_of k x)) (flat m)) (keep (λ x. not (is_of k x)) (flat m))) (apart k x (and_left (ltb k x.0) _ h))
+    ap (λ b. cond (not b) (held_as x ∷ filter (λ x. not (is_of k x)) (flat m)) (filter (λ x. not (is_of k x)) (flat m))) (apart k x (and_left (ltb k x.0) _ h))
     ∙ ap (λ l. held_as x ∷ l) (none_above k m (and_right (ltb k x.0) _ h))
 
 insert_none : (h : Held) → D.insert h [] ≡ h ∷ []
@@ -81,38 +81,36 @@ own : (k : ℕ) (v : ℕ × Time) (y : Held) → follows (held_as (k, v)).instan
 unfolding held_as
 own k v y = refl
 
-dropped : (k : ℕ) (y : Held) (l : List Held) → is_of k y ≡ true → keep (λ x. not (is_of k x)) (y ∷ l) ≡ D.supersede k l
-unfolding keep D.supersede
-dropped k y l e = ap (λ b. cond (not b) (y ∷ keep (λ x. not (is_of k x)) l) (keep (λ x. not (is_of k x)) l)) e
+dropped : (k : ℕ) (y : Held) (l : List Held) → is_of k y ≡ true → filter (λ x. not (is_of k x)) (y ∷ l) ≡ D.supersede k l
+unfolding D.supersede
+dropped k y l e = ap (λ b. cond (not b) (y ∷ filter (λ x. not (is_of k x)) l) (filter (λ x. not (is_of k x)) l)) e
 
-stays : (k : ℕ) (y : Held) (l : List Held) → is_of k y ≡ false → keep (λ x. not (is_of k x)) (y ∷ l) ≡ y ∷ D.supersede k l
-unfolding keep D.supersede
-stays k y l e = ap (λ b. cond (not b) (y ∷ keep (λ x. not (is_of k x)) l) (keep (λ x. not (is_of k x)) l)) e
+stays : (k : ℕ) (y : Held) (l : List Held) → is_of k y ≡ false → filter (λ x. not (is_of k x)) (y ∷ l) ≡ y ∷ D.supersede k l
+unfolding D.supersede
+stays k y l e = ap (λ b. cond (not b) (y ∷ filter (λ x. not (is_of k x)) l) (filter (λ x. not (is_of k x)) l)) e
 
 below : (k : ℕ) (x : ℕ × (ℕ × Time)) (m : Hold) → ltb k x.0 ≡ true → above x.0 m ≡ true → above k (x ∷ m) ≡ true
-unfolding all
 below k x m f up =
     let h = ltb-true k x.0 f in
     and_true (ltb k x.0) _ f (all_imp (λ y. ltb x.0 y.0) (λ y. ltb k y.0) (λ y g. lt-ltb k y.0 (omega (arith, h, ltb-true x.0 y.0 g))) m up)
 
 insert_first : (k : ℕ) (v : ℕ × Time) (m : Hold) → above k m ≡ true → D.insert (held_as (k, v)) (flat m) ≡ held_as (k, v) ∷ flat m
-unfolding all
 insert_first k v [] h = insert_none (held_as (k, v))
 insert_first k v (x ∷ m) h =
     insert_step (held_as (k, v)) (held_as x) (flat m)
     ∙ ap (λ b. cond b (held_as (k, v) ∷ held_as x ∷ flat m) (held_as x ∷ D.insert (held_as (k, v)) (flat m))) (own k v (held_as x) ∙ follows_as k x ∙ and_left (ltb k x.0) _ h)
 
 hold_flat : (k : ℕ) (v : ℕ × Time) (m : Hold) → ascends readers m ≡ true → flat (insert readers k v m) ≡ D.insert (held_as (k, v)) (D.supersede k (flat m))
-unfolding insert ascends readers D.supersede keep
+unfolding insert ascends readers D.supersede
 hold_flat k v [] h = sym (insert_none (held_as (k, v)))
 hold_flat k v (x ∷ m) h =
     let up : above x.0 m ≡ true = and_left (above x.0 m) _ h in
     let rest : ascends readers m ≡ true = and_right (above x.0 m) _ h in
-    (elim (eqb k x.0) as (λ b. eqb k x.0 ≡ b → flat (cond b ((k, v) ∷ m) (cond (ltb k x.0) ((k, v) ∷ x ∷ m) (x ∷ insert readers k v m))) ≡ D.insert (held_as (k, v)) (keep (λ x. not (is_of k x)) (held_as x ∷ flat m))) [
+    (elim (eqb k x.0) as (λ b. eqb k x.0 ≡ b → flat (cond b ((k, v) ∷ m) (cond (ltb k x.0) ((k, v) ∷ x ∷ m) (x ∷ insert readers k v m))) ≡ D.insert (held_as (k, v)) (filter (λ x. not (is_of k x)) (held_as x ∷ flat m))) [
       | true ↦ λ e.
           let a : above k m ≡ true = rw (eqb-true k x.0 e) up in
           sym (ap (λ l. D.insert (held_as (k, v)) l) (dropped k (held_as x) (flat m) (is_as k x ∙ e) ∙ none_above k m a) ∙ insert_first k v m a)
-      | false ↦ λ e. (elim (ltb k x.0) as (λ b. ltb k x.0 ≡ b → flat (cond b ((k, v) ∷ x ∷ m) (x ∷ insert readers k v m)) ≡ D.insert (held_as (k, v)) (keep (λ x. not (is_of k x)) (held_as x ∷ flat m))) [
+      | false ↦ λ e. (elim (ltb k x.0) as (λ b. ltb k x.0 ≡ b → flat (cond b ((k, v) ∷ x ∷ m) (x ∷ insert readers k v m)) ≡ D.insert (held_as (k, v)) (filter (λ x. not (is_of k x)) (held_as x ∷ flat m))) [
         | true ↦ λ f.
             let a : above k (x ∷ m) ≡ true = below k x m f up in
             sym (ap (λ l. D.insert (held_as (k, v)) l) (none_above k (x ∷ m) a) ∙ insert_first k v (x ∷ m) a)
@@ -131,7 +129,7 @@ remove_flat k m = sym (keep_map (λ x. not (is_of k x)) (λ x. held_as x) m)
 
 -- no key of the list is the first's
 abbrev apart_from : ℕ → List ℕ → Bool
-apart_from k l = all (λ j. not (eqb j k)) l
+apart_from k l = list_all (λ j. not (eqb j k)) l
 
 not_yes : (b : Bool) → not b ≡ true → b ≡ false
 not_yes true e = sym e
@@ -146,27 +144,26 @@ unfolding get readers
 get_own x m = ap (λ b. cond b (Some x.1) (get readers x.0 m)) (eq-eqb x.0 x.0 refl)
 
 remove_past : (k : ℕ) (x : ℕ × (ℕ × Time)) (m : Hold) → eqb k x.0 ≡ false → remove readers k (x ∷ m) ≡ x ∷ remove readers k m
-unfolding remove readers keep
-remove_past k x m e = ap (λ b. cond (not b) (x ∷ keep (λ x. not (eqb k x.0)) m) (keep (λ x. not (eqb k x.0)) m)) e
+unfolding remove readers
+remove_past k x m e = ap (λ b. cond (not b) (x ∷ filter (λ x. not (eqb k x.0)) m) (filter (λ x. not (eqb k x.0)) m)) e
 
-keeps_above : (k : ℕ) (m : Hold) → above k m ≡ true → keep (λ x. not (eqb k x.0)) m ≡ m
-unfolding keep all
+keeps_above : (k : ℕ) (m : Hold) → above k m ≡ true → filter (λ x. not (eqb k x.0)) m ≡ m
 keeps_above k [] h = refl
 keeps_above k (x ∷ m) h =
     let g = ltb-true k x.0 (and_left (ltb k x.0) _ h) in
-    ap (λ b. cond (not b) (x ∷ keep (λ x. not (eqb k x.0)) m) (keep (λ x. not (eqb k x.0)) m)) (ne_eqb k x.0 (λ q. omega (arith, g, q)))
+    ap (λ b. cond (not b) (x ∷ filter (λ x. not (eqb k x.0)) m) (filter (λ x. not (eqb k x.0)) m)) (ne_eqb k x.0 (λ q. omega (arith, g, q)))
     ∙ ap (λ l. x ∷ l) (keeps_above k m (and_right (ltb k x.0) _ h))
 
 remove_own : (x : ℕ × (ℕ × Time)) (m : Hold) → above x.0 m ≡ true → remove readers x.0 (x ∷ m) ≡ m
-unfolding remove readers keep
-remove_own x m h = ap (λ b. cond (not b) (x ∷ keep (λ y. not (eqb x.0 y.0)) m) (keep (λ y. not (eqb x.0 y.0)) m)) (eq-eqb x.0 x.0 refl) ∙ keeps_above x.0 m h
+unfolding remove readers
+remove_own x m h = ap (λ b. cond (not b) (x ∷ filter (λ y. not (eqb x.0 y.0)) m) (filter (λ y. not (eqb x.0 y.0)) m)) (eq-eqb x.0 x.0 refl) ∙ keeps_above x.0 m h
 
 and_past : (u : Option (ℕ × Time)) (k : ℕ) (x : ℕ × (ℕ × Time)) (r : List (ℕ × ℕ) × Hold) → and_item u k (r.0, x ∷ r.1) ≡ ((and_item u k r).0, x ∷ (and_item u k r).1)
 and_past None k x r = refl
 and_past (Some v) k x r = refl
 
 skip_first : (x : ℕ × (ℕ × Time)) (ks : List ℕ) (m : Hold) → apart_from x.0 ks ≡ true → take_each ks (x ∷ m) ≡ ((take_each ks m).0, x ∷ (take_each ks m).1)
-unfolding take_each all
+unfolding take_each
 skip_first x [] m h = refl
 skip_first x (k ∷ ks) m h =
     let e : eqb k x.0 ≡ false = not_yes (eqb k x.0) (and_left (not (eqb k x.0)) _ h) in
@@ -175,29 +172,28 @@ skip_first x (k ∷ ks) m h =
     ∙ ap (λ r. and_item (get readers k m) k r) (skip_first x ks (remove readers k m) (and_right (not (eqb k x.0)) _ h))
     ∙ and_past (get readers k m) k x (take_each ks (remove readers k m))
 
-keys_apart : (k : ℕ) (p : ℕ × (ℕ × Time) → Bool) (m : Hold) → above k m ≡ true → apart_from k (map (λ x. x.0) (keep p m)) ≡ true
-unfolding keep all
+keys_apart : (k : ℕ) (p : ℕ × (ℕ × Time) → Bool) (m : Hold) → above k m ≡ true → apart_from k (map (λ x. x.0) (filter p m)) ≡ true
 keys_apart k p [] h = refl
 keys_apart k p (x ∷ m) h =
     let g = ltb-true k x.0 (and_left (ltb k x.0) _ h) in
-    let r : apart_from k (map (λ x. x.0) (keep p m)) ≡ true = keys_apart k p m (and_right (ltb k x.0) _ h) in
-    elim (p x) as (λ b. apart_from k (map (λ x. x.0) (cond b (x ∷ keep p m) (keep p m))) ≡ true) [
+    let r : apart_from k (map (λ x. x.0) (filter p m)) ≡ true = keys_apart k p m (and_right (ltb k x.0) _ h) in
+    elim (p x) as (λ b. apart_from k (map (λ x. x.0) (cond b (x ∷ filter p m) (filter p m))) ≡ true) [
       | true ↦ and_true (not (eqb x.0 k)) _ (ap not (ne_eqb x.0 k (λ q. omega (arith, g, q)))) r
       | false ↦ r
     ]
 
-taken_same : (p : ℕ × (ℕ × Time) → Bool) (m : Hold) → ascends readers m ≡ true → take_each (map (λ x. x.0) (keep p m)) m ≡ (map pair_of (keep p m), keep (λ x. not (p x)) m)
-unfolding ascends readers keep take_each
+taken_same : (p : ℕ × (ℕ × Time) → Bool) (m : Hold) → ascends readers m ≡ true → take_each (map (λ x. x.0) (filter p m)) m ≡ (map pair_of (filter p m), filter (λ x. not (p x)) m)
+unfolding ascends readers take_each
 taken_same p [] h = refl
 taken_same p (x ∷ m) h =
     let up : above x.0 m ≡ true = and_left (above x.0 m) _ h in
     let ih = taken_same p m (and_right (above x.0 m) _ h) in
-    elim (p x) as (λ b. take_each (map (λ x. x.0) (cond b (x ∷ keep p m) (keep p m))) (x ∷ m) ≡ (map pair_of (cond b (x ∷ keep p m) (keep p m)), cond (not b) (x ∷ keep (λ x. not (p x)) m) (keep (λ x. not (p x)) m))) [
+    elim (p x) as (λ b. take_each (map (λ x. x.0) (cond b (x ∷ filter p m) (filter p m))) (x ∷ m) ≡ (map pair_of (cond b (x ∷ filter p m) (filter p m)), cond (not b) (x ∷ filter (λ x. not (p x)) m) (filter (λ x. not (p x)) m))) [
       | true ↦
-          ap (λ u. and_item u x.0 (take_each (map (λ x. x.0) (keep p m)) (remove readers x.0 (x ∷ m)))) (get_own x m)
-          ∙ ap (λ r. and_item (Some x.1) x.0 (take_each (map (λ x. x.0) (keep p m)) r)) (remove_own x m up)
+          ap (λ u. and_item u x.0 (take_each (map (λ x. x.0) (filter p m)) (remove readers x.0 (x ∷ m)))) (get_own x m)
+          ∙ ap (λ r. and_item (Some x.1) x.0 (take_each (map (λ x. x.0) (filter p m)) r)) (remove_own x m up)
           ∙ ap (λ (r : List (ℕ × ℕ) × Hold). ((x.0, x.1.0) ∷ r.0, r.1)) ih
-      | false ↦ skip_first x (map (λ x. x.0) (keep p m)) m (keys_apart x.0 p m up) ∙ ap (λ (r : List (ℕ × ℕ) × Hold). (r.0, x ∷ r.1)) ih
+      | false ↦ skip_first x (map (λ x. x.0) (filter p m)) m (keys_apart x.0 p m up) ∙ ap (λ (r : List (ℕ × ℕ) × Hold). (r.0, x ∷ r.1)) ih
     ]
 
 words_same : (l : Hold) → words (map pair_of l) ≡ D.words (flat l)
@@ -205,11 +201,11 @@ unfolding words D.words held_as
 words_same [] = refl
 words_same (x ∷ l) = ap (λ w. x.0 ∷ x.1.0 ∷ w) (words_same l)
 
-due_flat : (now : Time) (m : Hold) → D.due_at now (flat m) ≡ flat (keep (λ x. not_after x.1.1 now) m)
+due_flat : (now : Time) (m : Hold) → D.due_at now (flat m) ≡ flat (filter (λ x. not_after x.1.1 now) m)
 unfolding D.due_at held_as
 due_flat now m = keep_map (λ x. not_after x.due now) (λ x. held_as x) m
 
-left_flat : (now : Time) (m : Hold) → D.not_due_at now (flat m) ≡ flat (keep (λ x. not (not_after x.1.1 now)) m)
+left_flat : (now : Time) (m : Hold) → D.not_due_at now (flat m) ≡ flat (filter (λ x. not (not_after x.1.1 now)) m)
 unfolding D.not_due_at held_as
 left_flat now m = keep_map (λ x. not (not_after x.due now)) (λ x. held_as x) m
 
@@ -223,10 +219,10 @@ cond_map : {A B : Type 0} (f : A → B) (b : Bool) (u v : A) → f (cond b u v) 
 cond_map f true u v = refl
 cond_map f false u v = refl
 
-known_same : (k : ℕ) (m : Hold) → is_some (get readers k m) ≡ any (λ x. is_of k x) (flat m)
-unfolding get readers any is_some is_of held_as
+known_same : (k : ℕ) (m : Hold) → is_some (get readers k m) ≡ list_any (λ x. is_of k x) (flat m)
+unfolding get readers is_some is_of held_as
 known_same k [] = refl
-known_same k (x ∷ m) = elim (eqb k x.0) as (λ b. is_some (cond b (Some x.1) (get readers k m)) ≡ b || any (λ x. is_of k x) (flat m)) [ true ↦ refl | false ↦ known_same k m ]
+known_same k (x ∷ m) = elim (eqb k x.0) as (λ b. is_some (cond b (Some x.1) (get readers k m)) ≡ b || list_any (λ x. is_of k x) (flat m)) [ true ↦ refl | false ↦ known_same k m ]
 
 held_one : (k i : ℕ) (arrival : Time) (s : Separation) (m : Hold) → ascends readers m ≡ true → flat (hold m k i arrival (nanos_of s)) ≡ D.insert (record { instance = k; item = i; due = D.time_after arrival s }) (D.supersede k (flat m))
 unfolding hold held_as
@@ -255,19 +251,19 @@ hold_same k i arrival s m h =
     cond_map also (leb 1000000000 s.nanosec) ((refused 10, []), m) (cond (not (is_some (get readers k m)) && leb 32 (length m)) ((refused 8, []), m) ((answered 0, []), hold m k i arrival (nanos_of s)))
     ∙ ap (λ r. cond (leb 1000000000 s.nanosec) ((refused 10, []), flat m) r) (cond_map also (not (is_some (get readers k m)) && leb 32 (length m)) ((refused 8, []), m) ((answered 0, []), hold m k i arrival (nanos_of s)))
     ∙ ap (λ b. cond (leb 1000000000 s.nanosec) ((refused 10, []), flat m) (cond (not b && leb 32 (length m)) ((refused 8, []), flat m) ((answered 0, []), flat (hold m k i arrival (nanos_of s))))) (known_same k m)
-    ∙ ap (λ n. cond (leb 1000000000 s.nanosec) ((refused 10, []), flat m) (cond (not (any (λ x. is_of k x) (flat m)) && leb 32 n) ((refused 8, []), flat m) ((answered 0, []), flat (hold m k i arrival (nanos_of s))))) (sym (length-map m (λ x. held_as x)))
-    ∙ ap (λ l. cond (leb 1000000000 s.nanosec) ((refused 10, []), flat m) (cond (not (any (λ x. is_of k x) (flat m)) && leb 32 (length (flat m))) ((refused 8, []), flat m) ((answered 0, []), l))) (held_one k i arrival s m h)
-    ∙ told_case (leb 1000000000 s.nanosec) (not (any (λ x. is_of k x) (flat m)) && leb 32 (length (flat m))) (flat m) (D.insert (record { instance = k; item = i; due = D.time_after arrival s }) (D.supersede k (flat m)))
+    ∙ ap (λ n. cond (leb 1000000000 s.nanosec) ((refused 10, []), flat m) (cond (not (list_any (λ x. is_of k x) (flat m)) && leb 32 n) ((refused 8, []), flat m) ((answered 0, []), flat (hold m k i arrival (nanos_of s))))) (sym (length-map m (λ x. held_as x)))
+    ∙ ap (λ l. cond (leb 1000000000 s.nanosec) ((refused 10, []), flat m) (cond (not (list_any (λ x. is_of k x) (flat m)) && leb 32 (length (flat m))) ((refused 8, []), flat m) ((answered 0, []), l))) (held_one k i arrival s m h)
+    ∙ told_case (leb 1000000000 s.nanosec) (not (list_any (λ x. is_of k x) (flat m)) && leb 32 (length (flat m))) (flat m) (D.insert (record { instance = k; item = i; due = D.time_after arrival s }) (D.supersede k (flat m)))
 
 take_same : (now : Time) (out : List ℕ) (m : Hold) → ascends readers m ≡ true → also (take_or m now out) ≡ step_by (flat m) (takes now out)
 unfolding take_or take_due step_by D.take_due D.written
 take_same now out m h =
     let p : ℕ × (ℕ × Time) → Bool = λ x. not_after x.1.1 now in
-    let d : Hold = keep p m in
+    let d : Hold = filter p m in
     ap (λ (r : List (ℕ × ℕ) × Hold). also (cond (ltb (length out / 2) (length r.0)) ((refused 5, out), m) ((answered (length r.0), words r.0 ++ drop (length r.0 * 2) out), r.1))) (taken_same p m h)
-    ∙ ap (λ w. also (cond (ltb (length out / 2) (length (map pair_of d))) ((refused 5, out), m) ((answered (length (map pair_of d)), w ++ drop (length (map pair_of d) * 2) out), keep (λ x. not (p x)) m))) (words_same d)
-    ∙ ap (λ n. also (cond (ltb (length out / 2) n) ((refused 5, out), m) ((answered n, D.words (flat d) ++ drop (n * 2) out), keep (λ x. not (p x)) m))) (length-map d pair_of ∙ sym (length-map d (λ x. held_as x)))
-    ∙ cond_map also (ltb (length out / 2) (length (flat d))) ((refused 5, out), m) ((answered (length (flat d)), D.words (flat d) ++ drop (length (flat d) * 2) out), keep (λ x. not (p x)) m)
+    ∙ ap (λ w. also (cond (ltb (length out / 2) (length (map pair_of d))) ((refused 5, out), m) ((answered (length (map pair_of d)), w ++ drop (length (map pair_of d) * 2) out), filter (λ x. not (p x)) m))) (words_same d)
+    ∙ ap (λ n. also (cond (ltb (length out / 2) n) ((refused 5, out), m) ((answered n, D.words (flat d) ++ drop (n * 2) out), filter (λ x. not (p x)) m))) (length-map d pair_of ∙ sym (length-map d (λ x. held_as x)))
+    ∙ cond_map also (ltb (length out / 2) (length (flat d))) ((refused 5, out), m) ((answered (length (flat d)), D.words (flat d) ++ drop (length (flat d) * 2) out), filter (λ x. not (p x)) m)
     ∙ ap (λ l. cond (ltb (length out / 2) (length (flat d))) ((refused 5, out), flat m) ((answered (length (flat d)), D.words (flat d) ++ drop (length (flat d) * 2) out), l)) (sym (left_flat now m))
     ∙ ap (λ l. cond (ltb (length out / 2) (length l)) ((refused 5, out), flat m) ((answered (length l), D.words l ++ drop (length l * 2) out), D.not_due_at now (flat m))) (sym (due_flat now m))
     ∙ split_case (ltb (length out / 2) (length (D.due_at now (flat m)))) out (flat m) (length (D.due_at now (flat m))) (D.words (D.due_at now (flat m)) ++ drop (length (D.due_at now (flat m)) * 2) out) (D.not_due_at now (flat m))
@@ -314,8 +310,8 @@ unfolding step hold_or take_or hold supersede take_due
 step_ascends m (holds k i arrival s) h = hold_ascends (leb 1000000000 s.nanosec) (not (is_some (get readers k m)) && leb 32 (length m)) m (insert readers k (i, time_after arrival (nanos_of s)) m) h (insert_ascends readers_lawful k (i, time_after arrival (nanos_of s)) m h)
 step_ascends m (supersedes k) h = remove_ascends readers_lawful k m h
 step_ascends m (takes now out) h =
-    let r : List (ℕ × ℕ) = (take_each (map (λ x. x.0) (keep (λ x. not_after x.1.1 now) m)) m).0 in
-    take_ascends (ltb (length out / 2) (length r)) m (length r) out (words r ++ drop (length r * 2) out) (take_each (map (λ x. x.0) (keep (λ x. not_after x.1.1 now) m)) m).1 h (each_ascends (map (λ x. x.0) (keep (λ x. not_after x.1.1 now) m)) m h)
+    let r : List (ℕ × ℕ) = (take_each (map (λ x. x.0) (filter (λ x. not_after x.1.1 now) m)) m).0 in
+    take_ascends (ltb (length out / 2) (length r)) m (length r) out (words r ++ drop (length r * 2) out) (take_each (map (λ x. x.0) (filter (λ x. not_after x.1.1 now) m)) m).1 h (each_ascends (map (λ x. x.0) (filter (λ x. not_after x.1.1 now) m)) m h)
 step_ascends m clears h = none_ascends
 
 -- ---- every list of calls
@@ -346,8 +342,8 @@ as_ascends : (l : List Held) → D.rising l ≡ true → ascends readers (map_of
 unfolding D.rising ascends readers follows map_of
 as_ascends [] h = refl
 as_ascends (x ∷ l) h =
-    and_true (above x.instance (map_of l)) _ (all_map (λ y. ltb x.instance y.0) (λ y. (y.instance, (y.item, y.due))) l ∙ and_left (all (λ y. follows x.instance y) l) _ h)
-    (as_ascends l (and_right (all (λ y. follows x.instance y) l) _ h))
+    and_true (above x.instance (map_of l)) _ (all_map (λ y. ltb x.instance y.0) (λ y. (y.instance, (y.item, y.due))) l ∙ and_left (list_all (λ y. follows x.instance y) l) _ h)
+    (as_ascends l (and_right (list_all (λ y. follows x.instance y) l) _ h))
 
 flat_map : (l : List Held) → flat (map_of l) ≡ l
 unfolding map_of held_as

@@ -2,7 +2,7 @@
 -- specs/Map.antt). u128 is whole numbers: with separations of document 01's form no sum of time_after reaches 2^64.
 use Rattle.std.specs.Prelude.{ℕ, ◌+◌, ◌-◌, ◌*◌, ◌/◌, ◌%◌, ◌^◌, Bool, cond, List, [], ◌∷◌, map, ℤ, pos, negsuc, ltb, eqb, length}
 use Rattle.std.specs.Prelude.{Option, Some, None}
-use Rattle.laws.specs.Lists.{keep}
+use Rattle.laws.specs.Lists.{filter}
 use Rattle.filter_hold.specs.Tbf.{not_after}
 use Rattle.filter_hold.specs.declared.tbf.Time.{Time}
 use Rattle.source_model.specs.Map.{readers, get, insert, remove}
@@ -47,7 +47,7 @@ take_each (k ∷ due) held = and_item (get readers k held) k (take_each due (rem
 
 -- take_due; Time is ordered by seconds, then nanoseconds (document 01)
 unfoldable pub take_due : Hold → Time → List (ℕ × ℕ) × Hold
-take_due held now = take_each (map (λ x. x.0) (keep (λ x. not_after x.1.1 now) held)) held
+take_due held now = take_each (map (λ x. x.0) (filter (λ x. not_after x.1.1 now) held)) held
 
 unfoldable pub is_empty : Hold → Bool
 is_empty held = eqb (length held) 0

@@ -1,3 +1,5 @@
 pub mod ItemLaws
-pub mod TurnLaws
 pub mod TurnCounts
+pub mod TurnLaws
+pub mod TurnCases
+pub mod TurnKept

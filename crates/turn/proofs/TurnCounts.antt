@@ -6,13 +6,18 @@ use Rattle.std.specs.Prelude.{Option, Some, None}
 use native.Mathlib.Omega.{arith}
 use lib.IntN.{ℤ}
 use lib.ListN.{length}
-use Rattle.rules.specs.Entry.{What, sample, set_end, Entry}
-use Rattle.rules.specs.State.{State, Counts, plus}
+use Rattle.rules.specs.Entry.{set_end}
+use Rattle.rules.specs.declared.entry.What.{What}
+use Rattle.rules.specs.declared.entry.What.TheVariants.{Sample, End}
+use Rattle.rules.specs.declared.entry.Entry.{Entry}
+use Rattle.rules.specs.State.{State, plus}
+use Rattle.rules.specs.declared.state.ReleaseCounts.{ReleaseCounts}
 use Rattle.rules.specs.Sets.{members_of}
 use Rattle.rules.specs.Release.{Work, View, skip, discards, discard, hand_out, with_held, with_out, settle, at_group, work_of, back_to, release}
 use Rattle.rules.specs.Run.{releases, step, run}
 use Rattle.rules.proofs.Stays.{Stays, released_stays, release_cases}
-use Rattle.turn.specs.Turn.{Row, rows_calls, since, turn_to, AsCalls}
+use Rattle.turn.specs.declared.rows.Progress.{Progress}
+use Rattle.turn.specs.Turn.{rows_calls, since, turn_to, AsCalls}
 use Rattle.turn.specs.Turn as T
 use Rattle.turn.proofs.TurnLaws.{run_append, applied_run, applied_quiet, counts_quiet, turn_calls}
 
@@ -31,32 +36,32 @@ plus_within a x k h = (omega (arith, h.0, h.1), omega arith)
 
 -- ---- the counts
 
-pub record Grown (b c : Counts) : Type 0 where
-  pub skipped : Within b.skipped c.skipped
-  pub incomplete : Within b.incomplete c.incomplete
-  pub discarded : Within b.discarded c.discarded
-  pub late : Within b.late c.late
+pub record Grown (b c : ReleaseCounts) : Type 0 where
+  pub skipped_after_timeout : Within b.skipped_after_timeout c.skipped_after_timeout
+  pub incomplete_sets : Within b.incomplete_sets c.incomplete_sets
+  pub discarded_samples : Within b.discarded_samples c.discarded_samples
+  pub late_samples : Within b.late_samples c.late_samples
 
 -- each at most 2^64 − 1
-abbrev pub Small : Counts → Type 0
+abbrev pub Small : ReleaseCounts → Type 0
 Small c = Grown c c
 
-module _ (b : Counts) where
-  discards_up : (k : ℕ) (c : Counts) → Grown b c → Grown b (discards k c)
+module _ (b : ReleaseCounts) where
+  discards_up : (k : ℕ) (c : ReleaseCounts) → Grown b c → Grown b (discards k c)
   unfolding discards
-  discards_up k c h = record { skipped = h.skipped; incomplete = plus_within b.incomplete c.incomplete 1 h.incomplete; discarded = plus_within b.discarded c.discarded k h.discarded; late = h.late }
+  discards_up k c h = record { skipped_after_timeout = h.skipped_after_timeout; incomplete_sets = plus_within b.incomplete_sets c.incomplete_sets 1 h.incomplete_sets; discarded_samples = plus_within b.discarded_samples c.discarded_samples k h.discarded_samples; late_samples = h.late_samples }
 
-  skip_up : (k : ℕ) (c : Counts) → Grown b c → Grown b (skip k c)
+  skip_up : (k : ℕ) (c : ReleaseCounts) → Grown b c → Grown b (skip k c)
   unfolding skip
-  skip_up k c h = record { skipped = plus_within b.skipped c.skipped k h.skipped; incomplete = h.incomplete; discarded = h.discarded; late = h.late }
+  skip_up k c h = record { skipped_after_timeout = plus_within b.skipped_after_timeout c.skipped_after_timeout k h.skipped_after_timeout; incomplete_sets = h.incomplete_sets; discarded_samples = h.discarded_samples; late_samples = h.late_samples }
 
-module _ {X : Type 0} (b : Counts) where
+module _ {X : Type 0} (b : ReleaseCounts) where
   settle_up : (e : Entry X) (w : Work X) (x : What X) (z : Option ℤ) → Grown b w.counts → Grown b (settle e w x z).counts
   unfolding with_out with_held
-  settle_up e w (sample x) None h = h
-  settle_up e w (sample x) (Some z) h = h
-  settle_up e w (set_end f o) None h = h
-  settle_up e w (set_end f o) (Some z) h = h
+  settle_up e w (Sample x) None h = h
+  settle_up e w (Sample x) (Some z) h = h
+  settle_up e w (End u) None h = h
+  settle_up e w (End u) (Some z) h = h
 
   up : Stays {X = X} (λ l w. Grown b w.counts)
   unfolding discard hand_out at_group
@@ -81,9 +86,9 @@ sum : (a x : ℕ) → a ≤ x → a + (x - a) ≡ x
 sum a x h = omega (arith, h)
 
 -- the counts before a turn and what it reports give the counts after it
-pub turn_grows : (s : State ℕ) (rows : List Row) (v : View) (now : ℕ) (l : List ℕ) (n : ℕ) (c : Counts) → Small s.counts → (turn_to s rows v now l).0 ≡ T.released n c
-    → (s.counts.skipped + c.skipped ≡ (turn_to s rows v now l).1.counts.skipped) × (s.counts.incomplete + c.incomplete ≡ (turn_to s rows v now l).1.counts.incomplete)
-    × (s.counts.discarded + c.discarded ≡ (turn_to s rows v now l).1.counts.discarded) × (s.counts.late + c.late ≡ (turn_to s rows v now l).1.counts.late)
+pub turn_grows : (s : State ℕ) (rows : List Progress) (v : View) (now : ℕ) (l : List ℕ) (n : ℕ) (c : ReleaseCounts) → Small s.counts → (turn_to s rows v now l).0 ≡ T.released n c
+    → (s.counts.skipped_after_timeout + c.skipped_after_timeout ≡ (turn_to s rows v now l).1.counts.skipped_after_timeout) × (s.counts.incomplete_sets + c.incomplete_sets ≡ (turn_to s rows v now l).1.counts.incomplete_sets)
+    × (s.counts.discarded_samples + c.discarded_samples ≡ (turn_to s rows v now l).1.counts.discarded_samples) × (s.counts.late_samples + c.late_samples ≡ (turn_to s rows v now l).1.counts.late_samples)
 unfolding since
 turn_grows s rows v now l n c h e =
     let a : AsCalls s rows v now l n c = turn_calls s rows v now l n c e in
@@ -92,8 +97,8 @@ turn_grows s rows v now l n c h e =
     let m : (release u v now (length l)).1 ≡ (turn_to s rows v now l).1 = unfold run step in sym (a.state ∙ run_append s (rows_calls s rows) (releases now v l ∷ [])) in
     let g : Grown s.counts (turn_to s rows v now l).1.counts = subst (λ x. Grown s.counts x.counts) m (subst (λ x. Grown x (release u v now (length l)).1.counts) k (release_grows u v now (length l) (subst (λ x. Small x) (sym k) h))) in
     let d : c ≡ since s.counts (turn_to s rows v now l).1.counts = a.grown ∙ ap (λ (x : State ℕ). since s.counts x.counts) (sym a.state) in (
-      ap (λ (x : Counts). s.counts.skipped + x.skipped) d ∙ sum s.counts.skipped (turn_to s rows v now l).1.counts.skipped g.skipped.0,
-      ap (λ (x : Counts). s.counts.incomplete + x.incomplete) d ∙ sum s.counts.incomplete (turn_to s rows v now l).1.counts.incomplete g.incomplete.0,
-      ap (λ (x : Counts). s.counts.discarded + x.discarded) d ∙ sum s.counts.discarded (turn_to s rows v now l).1.counts.discarded g.discarded.0,
-      ap (λ (x : Counts). s.counts.late + x.late) d ∙ sum s.counts.late (turn_to s rows v now l).1.counts.late g.late.0,
+      ap (λ (x : ReleaseCounts). s.counts.skipped_after_timeout + x.skipped_after_timeout) d ∙ sum s.counts.skipped_after_timeout (turn_to s rows v now l).1.counts.skipped_after_timeout g.skipped_after_timeout.0,
+      ap (λ (x : ReleaseCounts). s.counts.incomplete_sets + x.incomplete_sets) d ∙ sum s.counts.incomplete_sets (turn_to s rows v now l).1.counts.incomplete_sets g.incomplete_sets.0,
+      ap (λ (x : ReleaseCounts). s.counts.discarded_samples + x.discarded_samples) d ∙ sum s.counts.discarded_samples (turn_to s rows v now l).1.counts.discarded_samples g.discarded_samples.0,
+      ap (λ (x : ReleaseCounts). s.counts.late_samples + x.late_samples) d ∙ sum s.counts.late_samples (turn_to s rows v now l).1.counts.late_samples g.late_samples.0,
     )

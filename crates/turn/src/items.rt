@@ -1,12 +1,12 @@
 // Items off a reader's channel, and the offers that they make.
-ghost use Rattle.std.specs.Prelude.{◌≡◌};
-ghost use Rattle.store.specs.Store.{state_of};
-ghost use Rattle.offers.specs.Calls.{offer_as};
-ghost use Rattle.turn.specs.Items.{participant_key, offer_by, brings, offer_item, ordered_as, OfferKept};
+ghost use Rattle.std.specs.Prelude.{◌≡◌, option_map};
+ghost use Rattle.refusals.specs.Refusal.{answer_as};
+ghost use Rattle.turn.specs.Items.{participant_key, brings, offer_item, OfferKept};
 
 use history::order::GroupOrder;
-use offers::call::{Offer, Offered};
-use store::entry::What;
+use refusals::Refusal;
+use rules::call::{Fate, Offer};
+use rules::entry::What;
 
 // The group of a writer whose announcement named none: its participant.
 pub fn participant_group_key(writer: [u8; 16]) -> [u8; 16]
@@ -21,74 +21,58 @@ pub fn participant_group_key(writer: [u8; 16]) -> [u8; 16]
 }
 
 // What an item of a GROUP-scope publisher's writer brings beside its writer.
-#[derive(Clone, Copy)]
+#[derive(Clone, Copy, PartialEq, Eq, Debug)]
 pub struct GroupMark {
     pub number: i64,
     pub set: Option<i64>,
     pub digest: u32,
 }
 
-// Whether an item has group information, and whether its writer's announcement named the group.
-#[derive(Clone, Copy)]
-pub enum Grouping {
-    Plain,
-    Unnamed(GroupMark),
-    Named(GroupMark),
-}
-
-// An item off a reader's channel. `group` is the group that was named.
-#[derive(Clone, Copy)]
+// An item off a reader's channel: its group information, if it has any, and the group that its writer's announcement named, if it named one.
+#[derive(Clone, Copy, PartialEq, Eq, Debug)]
 pub struct GroupItem {
-    pub grouping: Grouping,
-    pub group: [u8; 16],
+    pub mark: Option<GroupMark>,
+    pub group: Option<[u8; 16]>,
     pub writer: [u8; 16],
     pub reader: u8,
-    pub what: What,
+    pub what: What<u32>,
+    // nanoseconds
     pub time: u64,
 }
 
-#[derive(Clone, Copy)]
-pub enum Ordered {
-    GivenBack,
-    Taken(Offered),
-}
-
-fn offer_by(group: [u8; 16], mark: GroupMark, item: GroupItem) -> Offer
-    ensures { offer_as result ≡ offer_by group mark item }
-{
-    let writer = item.writer;
-    let set = mark.set;
-    let what = item.what;
-    Offer {
-        group,
-        writer,
-        reader: item.reader,
-        number: mark.number,
-        set,
-        digest: mark.digest,
-        what,
-        time: item.time,
+impl GroupItem {
+    // The offer that it makes: of the group that was named, else of the participant's; none without group information.
+    fn offer(self) -> Option<Offer<u32>>
+        ensures { result ≡ brings self }
+    {
+        let mark = self.mark?;
+        let writer = self.writer;
+        let named = self.group;
+        let group = match named {
+            Some(group) => group,
+            None => participant_group_key(writer),
+        };
+        Some(Offer {
+            group,
+            writer,
+            reader: self.reader,
+            number: mark.number,
+            set: mark.set,
+            digest: mark.digest,
+            what: self.what,
+            time: self.time,
+        })
     }
 }
 
-// Takes an item into the history, or gives it back where it has no group information.
-pub fn offer_item(store: &mut [u64; 6984], item: GroupItem) -> Ordered
-    ensures is { (ordered_as result, state_of store.new) ≡ offer_item (state_of store.old) (brings item) }
-    ensures kept { OfferKept result store.old store.new }
+// Takes an item into the history; with None it is given back, since it has no group information.
+#[tactic(auto, unfolding(crate::specs::Items::OfferKept, laws::specs::Answer::Kept))]
+pub fn offer_item(order: &mut GroupOrder, item: GroupItem) -> Option<Result<Fate, Refusal>>
+    ensures is { (option_map (λ r. answer_as r) result, order.new) ≡ offer_item order.old (brings item) }
+    ensures kept { OfferKept (option_map (λ r. answer_as r) result) order.old order.new }
 {
-    let grouping = item.grouping;
-    let writer = item.writer;
-    let group = item.group;
-    match grouping {
-        Grouping::Plain => Ordered::GivenBack,
-        Grouping::Unnamed(mark) => {
-            let key = participant_group_key(writer);
-            let o = offer_by(key, mark, item);
-            Ordered::Taken(GroupOrder::offer(store, o))
-        }
-        Grouping::Named(mark) => {
-            let o = offer_by(group, mark, item);
-            Ordered::Taken(GroupOrder::offer(store, o))
-        }
+    match item.offer() {
+        Some(offer) => Some(order.offer(offer)),
+        None => None,
     }
 }

@@ -1,5 +1,6 @@
-// The subscriber turn of presentation.rs of the source: items and the offers that they make, and the steps of a turn.
+// The subscriber turn of presentation.rs of the source: items and the offers that they make, and the rows of a turn.
 #![tactic(auto)]
 
 pub mod items;
-pub mod turn_steps;
+pub mod rows;
+pub mod take;

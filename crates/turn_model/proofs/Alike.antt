@@ -1,4 +1,5 @@
 -- The source's turn and the definition's, after every list of calls and turns.
+use Rattle.rules.specs.declared.state.ReleaseCounts.{ReleaseCounts}
 use Prim.{tt}
 use Prim.Native.Nat.{ℕ, ◌≤◌}
 use mathlib.Core.Path.{◌≡◌, refl, sym, ap, subst, ◌∙◌}
@@ -8,7 +9,7 @@ use Rattle.std.specs.Prelude.{Some, None}
 use lib.Dec.{ltb}
 use lib.ListN.{length}
 use Rattle.laws.specs.Answer.{Answer, refused, answered}
-use Rattle.laws.specs.Lists.{any}
+use Rattle.laws.specs.Lists.{list_any}
 use Rattle.rules.specs.State.{State}
 use Rattle.rules.specs.Offer.{refusal}
 use Rattle.rules.specs.Release.{View, Outcome, malformed, release}
@@ -20,10 +21,11 @@ use Rattle.laws.proofs.Lists.{or_left, or_right}
 use Rattle.rules.proofs.Reached.{step_reached, fresh_reached}
 use Rattle.release.specs.Released.{count_out, release_to}
 use Rattle.history.specs.Chain as C
-use Rattle.turn.specs.Turn.{Row, Turned, idle, released, since, report_of, reported, rows_calls, applied, turn_to}
+use Rattle.turn.specs.declared.rows.Progress.{Progress}
+use Rattle.turn.specs.Turn.{Turned, idle, released, since, report_of, reported, rows_calls, applied, turn_to}
 use Rattle.turn.specs.Turn as T
 use Rattle.turn.proofs.TurnLaws.{rows_quiet, applied_run}
-use Rattle.source_model.specs.Source.{GroupOrder, ReleaseCounts, is_empty}
+use Rattle.source_model.specs.Source.{GroupOrder, is_empty}
 use Rattle.source_model.specs.Source as S
 use Rattle.source_model.specs.Calls.{Told, told_released, told, view_of, samples, step}
 use Rattle.source_model.specs.Claim.{cut_counts, below, as_counts}
@@ -75,14 +77,14 @@ unfolding D.run
 run_readers [] s h = h
 run_readers (c ∷ cs) s h = run_readers cs (D.step s c).1 (step_readers s c h)
 
-applied_readers : (s : State ℕ) (rows : List Row) → Readers s → Readers (applied s rows)
+applied_readers : (s : State ℕ) (rows : List Progress) → Readers s → Readers (applied s rows)
 applied_readers s rows h = subst (λ (t : State ℕ). Readers t) (sym (applied_run s rows)) (run_readers (rows_calls s rows) s h)
 
 after_release : (s : State ℕ) (now : ℕ) (v : View) (l : List ℕ) → Reached s → Reached (release s v now (length l)).1
 after_release s now v l h = stepped s now v l (step_reached s (releases now v l) h)
 
 module _ (turns : ℕ) (f : 513 ≤ turns) (a : Asked) (o : GroupOrder ℕ) (s : State ℕ) (l : Like (bare_order o) s) (r : Reached s) where
-  abbrev rows : List Row
+  abbrev rows : List Progress
   rows = rows_of a.runtime a.readers o
 
   abbrev heard : GroupOrder ℕ
@@ -103,7 +105,7 @@ module _ (turns : ℕ) (f : 513 ≤ turns) (a : Asked) (o : GroupOrder ℕ) (s :
   unfolding step refusal
   none_refused e g = rw (e, g)
 
-  module _ (e : malformed a.view ≡ false) (t : any (λ x. ltb 7 x.reader) rows ≡ false) (g : ltb (length a.list) (samples o) ≡ false) where
+  module _ (e : malformed a.view ≡ false) (t : list_any (λ x. ltb 7 x.reader) rows ≡ false) (g : ltb (length a.list) (samples o) ≡ false) where
     like : Like (bare_order heard) said
     like = heard_like a.runtime a.readers o s t l
 
@@ -153,7 +155,7 @@ module _ (turns : ℕ) (f : 513 ≤ turns) (a : Asked) (o : GroupOrder ℕ) (s :
   turned true e = ap (λ b. M.reported (cond b (None, o) (Some (record { released = out.0; before = heard.counts; after = out.1.counts }), out.1))) e
   turned false e = ap (λ b. M.reported (cond b (None, o) (Some (record { released = out.0; before = heard.counts; after = out.1.counts }), out.1))) e
 
-  cases : (b i t : Bool) → (malformed a.view || any (λ x. ltb 7 x.reader) rows) ≡ b → is_empty o ≡ i → ltb (length a.list) (samples o) ≡ t → Both (turn_by b i t turns a o) (T.turn_by (T.judged b i t) s rows a.view a.now a.list) a.list
+  cases : (b i t : Bool) → (malformed a.view || list_any (λ x. ltb 7 x.reader) rows) ≡ b → is_empty o ≡ i → ltb (length a.list) (samples o) ≡ t → Both (turn_by b i t turns a o) (T.turn_by (T.judged b i t) s rows a.view a.now a.list) a.list
   cases true i t eb ei et = record { answer = refl; list = refl; like = l; exactly = tt }
   cases false true t eb ei et = subst (λ (m : M.Told × GroupOrder ℕ). Both m (idle, s, a.list) a.list) (sym (turned true ei)) (record { answer = refl; list = refl; like = l; exactly = tt })
   cases false false true eb ei et = record { answer = refl; list = refl; like = l; exactly = tt }
@@ -167,9 +169,9 @@ module _ (turns : ℕ) (f : 513 ≤ turns) (a : Asked) (o : GroupOrder ℕ) (s :
   both : Both (turn_or turns a o) (turn_of a o s) a.list
   unfolding turn_or turn_of turn_to
   both =
-      subst (λ (i : Bool). Both (turn_by (malformed a.view || any (λ x. ltb 7 x.reader) rows) (is_empty o) (ltb (length a.list) (samples o)) turns a o) (T.turn_by (T.judged (malformed a.view || any (λ x. ltb 7 x.reader) rows) i (ltb (length a.list) (R.samples s))) s rows a.view a.now a.list) a.list) empty_is
-      (subst (λ (t : Bool). Both (turn_by (malformed a.view || any (λ x. ltb 7 x.reader) rows) (is_empty o) (ltb (length a.list) (samples o)) turns a o) (T.turn_by (T.judged (malformed a.view || any (λ x. ltb 7 x.reader) rows) (is_empty o) t) s rows a.view a.now a.list) a.list) room_same
-      (cases (malformed a.view || any (λ x. ltb 7 x.reader) rows) (is_empty o) (ltb (length a.list) (samples o)) refl refl refl))
+      subst (λ (i : Bool). Both (turn_by (malformed a.view || list_any (λ x. ltb 7 x.reader) rows) (is_empty o) (ltb (length a.list) (samples o)) turns a o) (T.turn_by (T.judged (malformed a.view || list_any (λ x. ltb 7 x.reader) rows) i (ltb (length a.list) (R.samples s))) s rows a.view a.now a.list) a.list) empty_is
+      (subst (λ (t : Bool). Both (turn_by (malformed a.view || list_any (λ x. ltb 7 x.reader) rows) (is_empty o) (ltb (length a.list) (samples o)) turns a o) (T.turn_by (T.judged (malformed a.view || list_any (λ x. ltb 7 x.reader) rows) (is_empty o) t) s rows a.view a.now a.list) a.list) room_same
+      (cases (malformed a.view || list_any (λ x. ltb 7 x.reader) rows) (is_empty o) (ltb (length a.list) (samples o)) refl refl refl))
 
   -- ---- and the states it leaves
 
@@ -185,7 +187,7 @@ module _ (turns : ℕ) (f : 513 ≤ turns) (a : Asked) (o : GroupOrder ℕ) (s :
 
   left_reached : Reached (turn_of a o s).1
   unfolding turn_of turn_to
-  left_reached = turn_reached (malformed a.view || any (λ x. ltb 7 x.reader) rows) (nothing_waits s) (ltb (length a.list) (R.samples s))
+  left_reached = turn_reached (malformed a.view || list_any (λ x. ltb 7 x.reader) rows) (nothing_waits s) (ltb (length a.list) (R.samples s))
 
   turn_readers : Readers s → (b i t : Bool) → Readers (T.turn_by (T.judged b i t) s rows a.view a.now a.list).1
   unfolding T.reported release_to
@@ -196,7 +198,7 @@ module _ (turns : ℕ) (f : 513 ≤ turns) (a : Asked) (o : GroupOrder ℕ) (s :
 
   left_readers : Readers s → Readers (turn_of a o s).1
   unfolding turn_of turn_to
-  left_readers h = turn_readers h (malformed a.view || any (λ x. ltb 7 x.reader) rows) (nothing_waits s) (ltb (length a.list) (R.samples s))
+  left_readers h = turn_readers h (malformed a.view || list_any (λ x. ltb 7 x.reader) rows) (nothing_waits s) (ltb (length a.list) (R.samples s))
 
 -- what calls and turns reach is alike, and is a state that calls reach
 pub record Stands (o : GroupOrder ℕ) (s : State ℕ) : Type 0 where

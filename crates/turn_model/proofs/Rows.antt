@@ -8,10 +8,12 @@ use lib.IntN.{ℤ, pos}
 use lib.Signed.{lt_z}
 use lib.Dec.{ltb, leb}
 use lib.ListN.{length}
-use Rattle.laws.specs.Lists.{all, any, is_some}
+use Rattle.laws.specs.Lists.{list_all, list_any, is_some}
 use Rattle.guids.specs.Guid.{Guid}
 use Rattle.rules.specs.State.{State, knows_writer}
-use Rattle.rules.specs.Offer.{Heartbeat, Gap, refusal}
+use Rattle.rules.specs.Offer.{refusal}
+use Rattle.rules.specs.declared.call.Heartbeat.{Heartbeat}
+use Rattle.rules.specs.declared.call.Gap.{Gap}
 use Rattle.rules.specs.Run.{heartbeats, gaps}
 use Rattle.rules.specs.Run as D
 use Rattle.rules.specs.Claim.{Reached}
@@ -26,7 +28,8 @@ use Rattle.source_model.proofs.Bare.{bare_group, bare_order, over, group_at_bare
 use Rattle.source_model.proofs.Figures.{known_writer}
 use Rattle.source_model.proofs.Empty.{all_found}
 use Rattle.source_model.proofs.Steps.{heartbeat_step, gap_step}
-use Rattle.turn.specs.Turn.{Row, beat_call, beat_calls, gap_calls, row_calls, rows_calls, applied}
+use Rattle.turn.specs.declared.rows.Progress.{Progress as Row}
+use Rattle.turn.specs.Turn.{beat_call, beat_calls, gap_calls, row_calls, rows_calls, applied}
 use Rattle.turn.proofs.TurnLaws.{run_append, knows_quiet, row_quiet, applied_quiet, applied_run}
 use Rattle.turn_model.specs.Source.{WriterGroupProgress, Runtime, beat_if, gap_if, hear, for_readers, for_writers, heard_all}
 use Rattle.turn_model.specs.Claim.{range_of, range_if, row_of, rows_at, rows_for, rows_of}
@@ -34,13 +37,11 @@ use Rattle.turn_model.specs.Claim.{range_of, range_if, row_of, rows_at, rows_for
 or_both : (a b : Bool) → a ≡ false → b ≡ false → a || b ≡ false
 or_both a b e f = rw (e, f)
 
-any_left : {A : Type 0} (p : A → Bool) (a b : List A) → any p (a ++ b) ≡ false → any p a ≡ false
-unfolding any
+any_left : {A : Type 0} (p : A → Bool) (a b : List A) → list_any p (a ++ b) ≡ false → list_any p a ≡ false
 any_left p [] b h = refl
-any_left p (x ∷ a) b h = or_both (p x) (any p a) (or_left (p x) _ h) (any_left p a b (or_right (p x) _ h))
+any_left p (x ∷ a) b h = or_both (p x) (list_any p a) (or_left (p x) _ h) (any_left p a b (or_right (p x) _ h))
 
-any_right : {A : Type 0} (p : A → Bool) (a b : List A) → any p (a ++ b) ≡ false → any p b ≡ false
-unfolding any
+any_right : {A : Type 0} (p : A → Bool) (a b : List A) → list_any p (a ++ b) ≡ false → list_any p b ≡ false
 any_right p [] b h = h
 any_right p (x ∷ a) b h = any_right p a b (or_right (p x) _ h)
 
@@ -164,9 +165,9 @@ module _ {X : Type 0} where
   pub applied_reached : (s : State X) (rows : List Row) → Reached s → Reached (applied s rows)
   applied_reached s rows h = subst (λ (t : State X). Reached t) (sym (applied_run s rows)) (run_reached (rows_calls s rows) s h)
 
-  readers_like : (rt : Runtime) (readers : List ℕ) (g w : Guid) (o : GroupOrder X) (s : State X) → any (λ r. ltb 7 r.reader) (rows_at rt readers g w) ≡ false → Like (bare_order o) s → knows_writer g w s.writers ≡ true
+  readers_like : (rt : Runtime) (readers : List ℕ) (g w : Guid) (o : GroupOrder X) (s : State X) → list_any (λ r. ltb 7 r.reader) (rows_at rt readers g w) ≡ false → Like (bare_order o) s → knows_writer g w s.writers ≡ true
       → Like (bare_order (for_readers rt readers g w o)) (applied s (rows_at rt readers g w))
-  unfolding for_readers rows_at applied any
+  unfolding for_readers rows_at applied
   readers_like rt [] g w o s f l k = l
   readers_like rt (r ∷ rs) g w o s f l k =
       let row : Row = row_of g w r (rt w r) in
@@ -174,9 +175,9 @@ module _ {X : Type 0} where
       (row_like g w r (rt w r) o s (row_reader g w r (rt w r) (or_left (ltb 7 row.reader) _ f)) l k)
       (row_quiet (λ (t : State X). knows_writer g w t.writers) (knows_quiet g w) s row ∙ k)
 
-  writers_like : (rt : Runtime) (readers : List ℕ) (ws : List (Guid × Guid)) (o : GroupOrder X) (s : State X) → any (λ r. ltb 7 r.reader) (rows_for rt readers ws) ≡ false → Like (bare_order o) s
-      → all (λ x. knows_writer x.0 x.1 s.writers) ws ≡ true → Like (bare_order (for_writers rt readers ws o)) (applied s (rows_for rt readers ws))
-  unfolding for_writers rows_for applied all
+  writers_like : (rt : Runtime) (readers : List ℕ) (ws : List (Guid × Guid)) (o : GroupOrder X) (s : State X) → list_any (λ r. ltb 7 r.reader) (rows_for rt readers ws) ≡ false → Like (bare_order o) s
+      → list_all (λ x. knows_writer x.0 x.1 s.writers) ws ≡ true → Like (bare_order (for_writers rt readers ws o)) (applied s (rows_for rt readers ws))
+  unfolding for_writers rows_for applied
   writers_like rt readers [] o s f l k = l
   writers_like rt readers (x ∷ ws) o s f l k =
       let rows : List Row = rows_at rt readers x.0 x.1 in
@@ -188,10 +189,10 @@ module _ {X : Type 0} where
 
   -- ---- every writer that the order heard of is known
 
-  listed : (p : Guid × Guid → Bool) (gs : List (Guid × Group X)) → all p (writers_in gs) ≡ all (λ x. all (λ w. p (x.0, w.0)) x.1.writers) gs
-  unfolding writers_in all
+  listed : (p : Guid × Guid → Bool) (gs : List (Guid × Group X)) → list_all p (writers_in gs) ≡ list_all (λ x. list_all (λ w. p (x.0, w.0)) x.1.writers) gs
+  unfolding writers_in
   listed p [] = refl
-  listed p (x ∷ gs) = all_append p (map (λ w. (x.0, w.0)) x.1.writers) (writers_in gs) ∙ ap (λ b. b && all p (writers_in gs)) (all_map p (λ w. (x.0, w.0)) x.1.writers) ∙ ap (λ b. all (λ w. p (x.0, w.0)) x.1.writers && b) (listed p gs)
+  listed p (x ∷ gs) = all_append p (map (λ w. (x.0, w.0)) x.1.writers) (writers_in gs) ∙ ap (λ b. b && list_all p (writers_in gs)) (all_map p (λ w. (x.0, w.0)) x.1.writers) ∙ ap (λ b. list_all (λ w. p (x.0, w.0)) x.1.writers && b) (listed p gs)
 
   writers_in_bare : (gs : List (Guid × Group X)) → writers_in (over (λ g. bare_group g) gs) ≡ writers_in gs
   unfolding writers_in over bare_group
@@ -202,17 +203,17 @@ module _ {X : Type 0} where
   unfolding known_writers bare_order
   known_bare o = writers_in_bare o.groups
 
-  one_group : (o : GroupOrder X) (s : State X) → Like o s → (x : Guid × Group X) → get guids x.0 o.groups ≡ Some x.1 → all (λ w. knows_writer x.0 w.0 s.writers) x.1.writers ≡ true
+  one_group : (o : GroupOrder X) (s : State X) → Like o s → (x : Guid × Group X) → get guids x.0 o.groups ≡ Some x.1 → list_all (λ w. knows_writer x.0 w.0 s.writers) x.1.writers ≡ true
   one_group o s l x d =
       let k = subst (λ (u : Option (Group X)). WritersLike x.0 (or_default no_group u).writers s.writers) d (l.each x.0).writers in
       all_found guids_lawful (λ w. knows_writer x.0 w.0 s.writers) (λ w. true) x.1.writers k.ascend (λ w e. known_writer x.0 w.0 x.1.writers s.writers k ∙ ap (λ u. is_some u) e ∙ some_is w.1) ∙ all_yes x.1.writers
 
-  all_known : (o : GroupOrder X) (s : State X) → Like o s → all (λ x. knows_writer x.0 x.1 s.writers) (known_writers o) ≡ true
+  all_known : (o : GroupOrder X) (s : State X) → Like o s → list_all (λ x. knows_writer x.0 x.1 s.writers) (known_writers o) ≡ true
   unfolding known_writers
   all_known o s l =
       listed (λ x. knows_writer x.0 x.1 s.writers) o.groups
-      ∙ all_found guids_lawful (λ x. all (λ w. knows_writer x.0 w.0 s.writers) x.1.writers) (λ x. true) o.groups l.ascend (λ x d. one_group o s l x d) ∙ all_yes o.groups
+      ∙ all_found guids_lawful (λ x. list_all (λ w. knows_writer x.0 w.0 s.writers) x.1.writers) (λ x. true) o.groups l.ascend (λ x d. one_group o s l x d) ∙ all_yes o.groups
 
-  pub heard_like : (rt : Runtime) (readers : List ℕ) (o : GroupOrder X) (s : State X) → any (λ r. ltb 7 r.reader) (rows_of rt readers o) ≡ false → Like (bare_order o) s → Like (bare_order (heard_all rt readers o)) (applied s (rows_of rt readers o))
+  pub heard_like : (rt : Runtime) (readers : List ℕ) (o : GroupOrder X) (s : State X) → list_any (λ r. ltb 7 r.reader) (rows_of rt readers o) ≡ false → Like (bare_order o) s → Like (bare_order (heard_all rt readers o)) (applied s (rows_of rt readers o))
   unfolding heard_all rows_of
-  heard_like rt readers o s f l = writers_like rt readers (known_writers o) o s f l (ap (λ ws. all (λ x. knows_writer x.0 x.1 s.writers) ws) (sym (known_bare o)) ∙ all_known (bare_order o) s l)
+  heard_like rt readers o s f l = writers_like rt readers (known_writers o) o s f l (ap (λ ws. list_all (λ x. knows_writer x.0 x.1 s.writers) ws) (sym (known_bare o)) ∙ all_known (bare_order o) s l)

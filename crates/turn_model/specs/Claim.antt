@@ -1,15 +1,18 @@
 -- What is claimed: after every list of calls and turns the turn of the source, as Source.antt has it, and document 01's definition,
 -- given the rows that the source asks for, in its order, answer the same.
+use Rattle.rules.specs.declared.state.ReleaseCounts.{ReleaseCounts}
 use Prim.{Unit}
 use Rattle.std.specs.Prelude.{ℕ, ◌≡◌, Bool, true, false, ◌||◌, List, [], ◌∷◌, ◌++◌, map, ltb, length}
 use Rattle.std.specs.Prelude.{Option, Some, None}
-use Rattle.laws.specs.Lists.{any}
+use Rattle.laws.specs.Lists.{list_any}
 use Rattle.guids.specs.Guid.{Guid}
-use Rattle.rules.specs.State.{State, Counts, fresh}
+use Rattle.rules.specs.State.{State, fresh}
 use Rattle.rules.specs.Release.{View, malformed}
 use Rattle.rules.specs.Run.{Call, nothing_waits, waiting}
 use Rattle.rules.specs.Run as D
-use Rattle.turn.specs.Turn.{Range, Row, Turned, idle, not_done, released, since, turn_to}
+use Rattle.turn.specs.declared.rows.Progress.{Progress}
+use Rattle.turn.specs.declared.rows.Beat.{Beat}
+use Rattle.turn.specs.Turn.{Turned, idle, not_done, released, since, turn_to}
 use Rattle.source_model.specs.Source.{HeartbeatInfo, GroupOrder, new, is_empty, known_writers, held_for}
 use Rattle.source_model.specs.Calls.{told_released, view_of, samples, step}
 use Rattle.source_model.specs.Claim.{cut_counts, below, as_counts}
@@ -18,24 +21,24 @@ use Rattle.turn_model.specs.Source.{WriterGroupProgress, Runtime, Report, turn}
 
 -- ---- the rows that the source asks for, in its order: each known writer, each reader
 
-unfoldable pub range_of : HeartbeatInfo → Range
+unfoldable pub range_of : HeartbeatInfo → Beat
 range_of h = record { first = h.first_gsn; last = h.last_gsn; current = h.current_gsn; digest = h.writer_set; secure = h.secure_writer_set }
 
-abbrev pub range_if : Option HeartbeatInfo → Option Range
+abbrev pub range_if : Option HeartbeatInfo → Option Beat
 range_if None = None
 range_if (Some h) = Some (range_of h)
 
-unfoldable pub row_of : Guid → Guid → ℕ → WriterGroupProgress → Row
+unfoldable pub row_of : Guid → Guid → ℕ → WriterGroupProgress → Progress
 row_of g w r p = record { group = g; writer = w; reader = r; heartbeat = range_if p.heartbeat; gap_end = p.gap_end_gsn }
 
-unfoldable pub rows_at : Runtime → List ℕ → Guid → Guid → List Row
+unfoldable pub rows_at : Runtime → List ℕ → Guid → Guid → List Progress
 rows_at rt readers g w = map (λ r. row_of g w r (rt w r)) readers
 
-unfoldable pub rows_for : Runtime → List ℕ → List (Guid × Guid) → List Row
+unfoldable pub rows_for : Runtime → List ℕ → List (Guid × Guid) → List Progress
 rows_for rt readers [] = []
 rows_for rt readers (x ∷ ws) = rows_at rt readers x.0 x.1 ++ rows_for rt readers ws
 
-unfoldable pub rows_of : {I : Type 0} → Runtime → List ℕ → GroupOrder I → List Row
+unfoldable pub rows_of : {I : Type 0} → Runtime → List ℕ → GroupOrder I → List Progress
 rows_of rt readers o = rows_for rt readers (known_writers o)
 
 -- ---- document 01's refusals around the source's turn: 9; nothing waits; 5
@@ -66,12 +69,12 @@ turn_by false false false turns a o = reported (turn turns a.runtime a.readers (
 
 unfoldable pub turn_or : ℕ → Asked → GroupOrder ℕ → Told × GroupOrder ℕ
 turn_or turns a o =
-    turn_by (malformed a.view || any (λ r. ltb 7 r.reader) (rows_of a.runtime a.readers o)) (is_empty o) (ltb (length a.list) (samples o)) turns a o
+    turn_by (malformed a.view || list_any (λ r. ltb 7 r.reader) (rows_of a.runtime a.readers o)) (is_empty o) (ltb (length a.list) (samples o)) turns a o
 
 -- ---- the definition's answer
 
 -- counts stop at 2^64 − 1 there; the report is their difference
-unfoldable pub grown : Report ℕ → Counts
+unfoldable pub grown : Report ℕ → ReleaseCounts
 grown r = since (cut_counts r.before) (cut_counts r.after)
 
 abbrev pub turned_as : Told → Turned

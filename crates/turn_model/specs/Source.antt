@@ -1,10 +1,11 @@
 -- GroupOrdering::release of presentation.rs over the model of group_order.rs (crates/source_model). The lock is always had; a reader and
 -- its runtime entity are one number; what `deliver` and the status hooks do is not modelled, but for the samples and their order.
+use Rattle.rules.specs.declared.state.ReleaseCounts.{ReleaseCounts}
 use Rattle.std.specs.Prelude.{ℕ, Bool, true, false, cond, List, [], ◌∷◌, ℤ, pos}
 use Rattle.std.specs.Prelude.{Option, Some, None}
 use Rattle.std.specs.Int.Signed.{lt_z}
 use Rattle.guids.specs.Guid.{Guid}
-use Rattle.source_model.specs.Source.{HeartbeatInfo, GroupView, GroupOrder, ReleaseCounts, is_empty, known_writers, heartbeat, gap, release}
+use Rattle.source_model.specs.Source.{HeartbeatInfo, GroupView, GroupOrder, is_empty, known_writers, heartbeat, gap, release}
 
 -- what the runtime knows of a writer's progress at a reader
 pub record WriterGroupProgress : Type 0 where

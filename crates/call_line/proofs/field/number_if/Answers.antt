@@ -1,25 +1,16 @@
--- `call_line::field::number_if` meets its contract.
-use mir.Syntax.{w64}
-use mir.Facts.{to_z-of_z}
-use Rattle.std.specs.Prelude.{Some}
-use lib.IntN.{pos}
-use mathlib.Core.Path.{sym, ap, ◌∙◌}
-use Rattle.fields.specs.Fields.{field_at, number}
-use Rattle.call_line.specs.Line.{number_if}
-use Rattle.call_line.proofs.Told.{is_dash, no_dash}
-use borrow.Author.Rules.{rules}
+use Rattle.std.proofs.Common.{rules, ◌∙◌, w64}
+use Rattle.std.proofs.lemmas.Int.{to_z-of_z}
+use mir.Val.{SFits}
+use Rattle.call_line.proofs.FieldKinds.{dash_none, there_none, there_some}
 use Rattle.call_line.proofs.field.number_if.Goals as goal
 
-pub returns-then-only_byte-eq45 : goal.returns-then-only_byte-eq45
-unfolding number_if
-returns-then-only_byte-eq45 c = let o = c.only_byte in
-    let a = c.args in
-    is_dash (field_at a.k a.line.now) (pos 0) (number a.k a.line.now) (sym o.ensures ∙ c.if-only_byte-eq45.true)
+pub returns-then-dash-clause-number : goal.returns-then-dash-clause-number
+returns-then-dash-clause-number c = dash_none _ _ c.if-dash.ensures.dash
 
-pub returns : goal.returns
-unfolding number_if
-returns c = let n = c.number_at-read in
-    let o = c.only_byte in
-    let a = c.args in
-    ap (λ y. (n.result.ok, Some y)) (to_z-of_z {w = w64} {z = n.result.value} (search rules))
-    ∙ no_dash (field_at a.k a.line.now) (pos 0) (number a.k a.line.now) (λ e. c.if-only_byte-eq45.false (o.ensures ∙ e)) n.result.ok n.result.value n.ensures
+pub returns-in_err-number-clause-number : goal.returns-in_err-number-clause-number
+returns-in_err-number-clause-number c = c.from_residual.ensures ∙ there_none _ _ c.if-dash.ensures.dash (rw (← c.if-dash.ensures.other) c.in_err-number.ensures.number)
+
+pub returns-clause-number : goal.returns-clause-number
+returns-clause-number c =
+    let fits : SFits w64 c.in_ok-number.number = search rules in
+    there_some _ _ _ c.if-dash.ensures.dash (rw (← c.if-dash.ensures.other) (simp to_z-of_z c.in_ok-number.ensures.number))

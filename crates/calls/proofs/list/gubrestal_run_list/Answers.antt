@@ -1,23 +1,26 @@
-use mathlib.Core.Path.{refl}
-use native.Mathlib.Omega.{arith}
-use borrow.Author.Rules.{rules}
-use Rattle.calls.proofs.Listing.{left_first, left_none, left_next, left_last, ran_at, end_is, end_within_text}
+use Rattle.std.proofs.Common.{rules, ◌∙◌, ◌<◌, ◌≤◌, ap, sym, arith, length, option_map}
+use Rattle.calls.proofs.Listing.{left_first, left_none, left_next, left_last, rest_shorter}
 use Rattle.calls.proofs.list.gubrestal_run_list.Goals as goal
 
-pub loop-i-init : goal.loop-i-init
-loop-i-init c = (refl, left_first c.new-fresh.ensures c.clear.ensures)
+pub loop-rest-init : goal.loop-rest-init
+loop-rest-init c = left_first c.new-calls.ensures
 
-pub returns-then-step-text : goal.returns-then-step-text
-returns-then-step-text c = left_last c.loop-i.invariant.1 c.loop-i-test.true (end_is c.args.text.now c.loop-i.i c.run_on-step.result.end c.run_on-step.ensures.end_value) (ran_at c.args.text.now c.loop-i.i c.run_on-step.result.end c.loop-i-test.true c.run_on-step.ensures.end_value c.run_on-step.ensures.ran_on) c.if-step-text.true
+pub loop-rest-smaller : goal.loop-rest-smaller
+loop-rest-smaller c = rest_shorter c.loop-rest.rest.now c.in-Some.next.now _ (ap (λ o. option_map (λ s. s.now) o) (sym c.in-Some.is) ∙ c.parse_first-line.ensures.behind)
 
-pub overflow_add-i : goal.overflow_add-i
-overflow_add-i c = omega (arith, end_within_text c.args.text.now c.loop-i.i c.run_on-step.result.end c.loop-i-test.true c.run_on-step.ensures.end_value)
+pub loop-rest-preserved : goal.loop-rest-preserved
+loop-rest-preserved c =
+    let h : 0 < length c.loop-rest.rest.now = search rules in
+    left_next c.loop-rest.invariant h (omega arith) c.clear.ensures c.parse_first-line.ensures.line c.run.ensures (c.as_slice.ensures.value ∙ c.put_bytes.ensures) c.put_bytes-at.ensures _
+    c.parse_first-line.ensures.behind c.in-Some.next.now (ap (λ o. option_map (λ s. s.now) o) c.in-Some.is)
 
-pub loop-i-smaller : goal.loop-i-smaller
-loop-i-smaller c = omega (arith, end_within_text c.args.text.now c.loop-i.i c.run_on-step.result.end c.loop-i-test.true c.run_on-step.ensures.end_value)
-
-pub loop-i-preserved : goal.loop-i-preserved
-loop-i-preserved c = (search rules, left_next c.loop-i.invariant.1 c.loop-i-test.true (end_is c.args.text.now c.loop-i.i c.run_on-step.result.end c.run_on-step.ensures.end_value) (ran_at c.args.text.now c.loop-i.i c.run_on-step.result.end c.loop-i-test.true c.run_on-step.ensures.end_value c.run_on-step.ensures.ran_on) (omega (arith, end_within_text c.args.text.now c.loop-i.i c.run_on-step.result.end c.loop-i-test.true c.run_on-step.ensures.end_value)))
+pub returns-in-None : goal.returns-in-None
+returns-in-None c =
+    let h : 0 < length c.loop-rest.rest.now = search rules in
+    left_last c.loop-rest.invariant h (omega arith) c.clear.ensures c.parse_first-line.ensures.line c.run.ensures (c.as_slice.ensures.value ∙ c.put_bytes.ensures) c.put_bytes-at.ensures _
+    c.parse_first-line.ensures.behind (ap (λ o. option_map (λ s. s.now) o) c.in-None.is)
 
 pub returns : goal.returns
-returns c = left_none (omega arith) c.loop-i.invariant.1
+returns c =
+    let h : length c.loop-rest.rest.now ≤ 0 = search rules in
+    left_none h c.loop-rest.invariant

@@ -1,4 +1,4 @@
--- `turn::items::participant_group_key` meets its contract: the last four bytes are zeros.
+-- The last four bytes are zeros.
 use mathlib.Core.Path.{◌≡◌}
 use lib.ListN.{length}
 use Rattle.turn.proofs.ItemLaws.{key_made}

@@ -1,18 +1,18 @@
 -- `release_all`: an end is judged, any other item stands behind its writer's members.
-use Rattle.std.proofs.Common.{◌∙◌, sym, ap, arith, length}
-use Rattle.coherent_hold.specs.Gate.{written, set_is_complete, hold_as, kind_as, item_as}
+use Rattle.std.proofs.Common.{◌∙◌, sym, ap, arith, length, None}
+use Rattle.coherent_hold.specs.Gate.{written, leaves, set_is_complete, hold_as, kind_as, item_as}
 use Rattle.coherent_hold.proofs.Members.{as_many, no_more, shown}
 use Rattle.coherent_hold.proofs.GateCalls.{ended_whole, ended_short, followed_is}
 use Rattle.coherent_hold.proofs.hold.CoherentHold.release_all.Goals as goal
 
 pub write_members-requires : goal.write_members-requires
-write_members-requires c = omega (arith, ap length c.deref-in-End-2.ensures.0, no_more _ _ _ c.release-released.ensures.released)
+write_members-requires c = omega (arith, ap length c.deref-in-End-2.ensures.0, no_more _ (λ h. leaves (item_as c.args.item).writer None h) (hold_as c.args.self.now) c.release-released.ensures.released)
 
 pub write_members-requires-in-Change : goal.write_members-requires-in-Change
-write_members-requires-in-Change c = omega (arith, ap length c.deref-in-Change.ensures.0, no_more _ _ _ c.release-released.ensures.released)
+write_members-requires-in-Change c = omega (arith, ap length c.deref-in-Change.ensures.0, no_more _ (λ h. leaves (item_as c.args.item).writer None h) (hold_as c.args.self.now) c.release-released.ensures.released)
 
 pub write_item-requires : goal.write_item-requires
-write_item-requires c = omega (arith, c.len-n.ensures.value, no_more _ _ _ c.release-released.ensures.released)
+write_item-requires c = omega (arith, c.len-n.ensures.value, no_more _ (λ h. leaves (item_as c.args.item).writer None h) (hold_as c.args.self.now) c.release-released.ensures.released)
 
 pub returns-in-End : goal.returns-in-End
 returns-in-End c = let a = c.args in

@@ -8,7 +8,7 @@ use lib.Dec.{leb}
 use lib.ListN.{length}
 use Rattle.std.proofs.lemmas.List.Sums.{prefix_len-le-length}
 use Rattle.laws.specs.Answer.{Kept}
-use Rattle.laws.specs.Lists.{any, index_of}
+use Rattle.laws.specs.Lists.{list_any, index_of}
 use Rattle.filter_hold.specs.Tbf.{hold, insert, is_of, follows}
 use Rattle.filter_hold.proofs.TbfLaws.{held_any, full_at, replaces, few, room, place_index}
 use Rattle.filter_hold.proofs.tbf.TbfHold.hold.Goals as goal
@@ -22,16 +22,16 @@ pub returns-then-not-holds : goal.returns-then-not-holds
 unfolding hold Kept
 returns-then-not-holds c =
     let l = c.args.self.now.held.items in
-    let none : any (λ x. is_of c.args.instance x) l ≡ false = sym (held_any _ _) ∙ sym c.holds.ensures ∙ c.if-not-holds.true in
-    let all : leb 32 (length l) ≡ true = sym (full_at _ c.is_full.ensures.fits) ∙ sym c.is_full.ensures.value ∙ c.if-is_full.true in
-    record { is = rw (lt-leb 1000000000 c.args.separation.nanosec (omega arith), none, all); kept = refl }
+    let none : list_any (λ x. is_of c.args.instance x) l ≡ false = sym (held_any _ _) ∙ sym c.holds.ensures ∙ c.if-not-holds.true in
+    let full : leb 32 (length l) ≡ true = sym (full_at _ c.is_full.ensures.fits) ∙ sym c.is_full.ensures.value ∙ c.if-is_full.true in
+    record { is = rw (lt-leb 1000000000 c.args.separation.nanosec (omega arith), none, full); kept = refl }
 
 pub insert-requires : goal.insert-requires
 insert-requires c =
     let l = c.args.self.now.held.items in
-    let taken : not (any (λ x. is_of c.args.instance x) l) && leb 32 (length l) ≡ false = elim c.else-is_full.branch [
-      | else-is_full-via-then-is_full+else-not-holds w ↦ replaces _ _ (sym w.holds.ensures ∙ w.if-not-holds.false)
-      | else-is_full-via-else-is_full w ↦ few _ _ c.is_full.ensures.fits (sym c.is_full.ensures.value ∙ w.if-is_full.false)
+    let taken : not (list_any (λ x. is_of c.args.instance x) l) && leb 32 (length l) ≡ false = elim c.else-is_full.branch [
+      | else-is_full-via-then-is_full+else-not-holds w ↦ replaces c.args.instance l (sym w.holds.ensures ∙ w.if-not-holds.false)
+      | else-is_full-via-else-is_full w ↦ few c.args.instance l c.is_full.ensures.fits (sym c.is_full.ensures.value ∙ w.if-is_full.false)
     ] in
     (omega arith, (rw c.place-place.ensures (prefix_len-le-length _ _), rw c.supersede.ensures (room _ _ c.is_full.ensures.fits taken)))
 
@@ -40,9 +40,9 @@ unfolding hold insert Kept
 returns c =
     let a = c.args in
     let l = a.self.now.held.items in
-    let taken : not (any (λ x. is_of a.instance x) l) && leb 32 (length l) ≡ false = elim c.else-is_full.branch [
-      | else-is_full-via-then-is_full+else-not-holds w ↦ replaces _ _ (sym w.holds.ensures ∙ w.if-not-holds.false)
-      | else-is_full-via-else-is_full w ↦ few _ _ c.is_full.ensures.fits (sym c.is_full.ensures.value ∙ w.if-is_full.false)
+    let taken : not (list_any (λ x. is_of a.instance x) l) && leb 32 (length l) ≡ false = elim c.else-is_full.branch [
+      | else-is_full-via-then-is_full+else-not-holds w ↦ replaces c.args.instance l (sym w.holds.ensures ∙ w.if-not-holds.false)
+      | else-is_full-via-else-is_full w ↦ few c.args.instance l c.is_full.ensures.fits (sym c.is_full.ensures.value ∙ w.if-is_full.false)
     ] in
     let place : c.place-place.result ≡ index_of (λ x. follows a.instance x) c.supersede.new.self.held.items = c.place-place.ensures ∙ place_index _ _ in
     record {

@@ -2,9 +2,8 @@
 use Rattle.std.proofs.Common.{rules, ◌∙◌}
 use Rattle.arrayvec.proofs.ArrayVecLemmas.{filter-from_retain}
 use Rattle.filter_hold.specs.Tbf.{supersede, is_of}
-use Rattle.filter_hold.proofs.TbfLaws.{filter_keep}
 use Rattle.filter_hold.proofs.tbf.TbfHold.supersede.Goals as goal
 
 pub returns : goal.returns
 unfolding supersede is_of
-returns c = filter-from_retain _ _ _ (λ x b f' y called. search rules) _ _ c.retain.ensures.filtered ∙ filter_keep _ _
+returns c = filter-from_retain _ _ _ (λ x b f' y called. search rules) _ _ c.retain.ensures.filtered

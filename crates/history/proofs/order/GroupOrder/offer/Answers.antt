@@ -1,5 +1,7 @@
--- `history::order::GroupOrder::offer` meets its contract.
+use Rattle.std.proofs.Common.{sym}
+use Rattle.laws.proofs.Answer.{kept_under}
+use Rattle.store.specs.Store.{state_of}
 use Rattle.history.proofs.order.GroupOrder.offer.Goals as goal
 
-pub returns : goal.returns
-returns c = c.offer.ensures
+pub returns-clause-kept : goal.returns-clause-kept
+returns-clause-kept c = rw (sym c.self.view_is) (kept_under (λ s. state_of s) _ _ _ c.offer.ensures.kept)

@@ -1,4 +1,0 @@
-pub mod Sorted
-pub mod Order
-pub mod Listed
-pub mod Walking

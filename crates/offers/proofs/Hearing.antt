@@ -1,0 +1,105 @@
+-- Groups and writers made known, and a writer changed.
+use Rattle.std.specs.Prelude.{ℕ, ◌+◌, ◌<◌, ◌≤◌, suc, Bool, true, false, not, ◌&&◌, ◌||◌, leb, cond, List, [], ◌∷◌, ◌++◌, length, get_or, set, ◌≡◌, Some, None}
+use Rattle.std.specs.List.{insert, position_or_len, position}
+use Rattle.std.proofs.Common.{zero, ltb, refl, sym, ap, ◌∙◌, arith, length-set}
+use Rattle.arrayvec.specs.ArrayVec.{ArrayVec, with_items}
+use Rattle.arrayvec.proofs.ArrayVecLemmas.{items-with_items}
+use Rattle.std.specs.Option.{unwrap_or}
+use Rattle.std.proofs.lemmas.List.Sums.{prefix_len-le-length}
+use Rattle.std.proofs.lemmas.List.Quantifiers.{position-Some}
+use borrow.Author.Tests.{ltb-false, leb-false}
+use Rattle.laws.specs.Lists.{list_any, change}
+use Rattle.laws.proofs.Lists.{not_both, and_true, or_true_right}
+use Rattle.guids.specs.Guid.{Guid, same_guid, before}
+use Rattle.guids.proofs.Guids.{same_refl}
+use Rattle.rules.specs.declared.state.Group.{Group}
+use Rattle.rules.specs.declared.state.Writer.{Writer}
+use Rattle.rules.specs.State.{new_group, new_writer, is_writer, knows_group, knows_writer}
+use Rattle.rules.specs.Marks.{insert_group, hear_group, hear_writer, tell}
+
+-- the group's place is before the first that comes behind it
+insert_at : (x : Group) (l : List Group) → insert l (position_or_len (λ y. before x.guid y.guid) l) x ≡ insert_group x l
+unfolding insert_group
+insert_at x [] = refl
+insert_at x (y ∷ l) =
+    let n : ℕ = position_or_len (λ y. before x.guid y.guid) l in
+    let e : 1 + n ≡ suc n = omega arith in
+    elim (before x.guid y.guid) as (λ b. insert (y ∷ l) (cond (not b) (1 + n) 0) x ≡ cond b (x ∷ y ∷ l) (y ∷ insert_group x l)) [ true ↦ refl | false ↦ rw e (ap (λ r. y ∷ r) (insert_at x l)) ]
+
+-- the place that is found, or the end
+place_or_end : (p : Group → Bool) (l : List Group) → unwrap_or (position p l) (length l) ≡ position_or_len p l
+place_or_end p l =
+    let le = prefix_len-le-length (λ x. not (p x)) l in
+    (elim (ltb (position_or_len p l) (length l)) as (λ b. ltb (position_or_len p l) (length l) ≡ b → unwrap_or (cond b (Some (position_or_len p l)) None) (length l) ≡ position_or_len p l) [
+      | true ↦ λ e. refl
+      | false ↦ λ e. omega (arith, ltb-false (position_or_len p l) (length l) e)
+    ]) refl
+
+-- an unknown group, put before the first that comes behind it
+pub heard_at : (g : Guid) (l : List Group) → knows_group g l ≡ false → insert l (unwrap_or (position (λ y. before g y.guid) l) (length l)) (new_group g) ≡ hear_group g l
+unfolding hear_group new_group
+heard_at g l e = rw (e, place_or_end (λ y. before g y.guid) l) (insert_at (new_group g) l)
+
+module _ {A : Type 0} (p : A → Bool) where
+  change_at : (f : A → A) (l : List A) (i : ℕ) (z : A) → i < length l → p (get_or l i z) ≡ true → ((k : ℕ) → k < i → p (get_or l k z) ≡ false) → change p f l ≡ set l i (f (get_or l i z))
+  unfolding change
+  change_at f [] i z h e n = absurd (omega arith)
+  change_at f (x ∷ l) zero z h e n = rw e refl
+  change_at f (x ∷ l) (suc i) z h e n = rw (n 0 (omega arith)) (ap (λ r. x ∷ r) (change_at f l i z (omega arith) e (λ k u. n (suc k) (omega arith))))
+
+  -- at a place that is found, the first that passes is changed
+  pub change_found : (f : A → A) (l : List A) (i : ℕ) (z : A) → Some i ≡ position p l → change p f l ≡ set l i (f (get_or l i z))
+  change_found f l i z e = let h = position-Some p l i z (sym e) in change_at f l i z h.0 h.1 h.2
+
+  none_past : (l : List A) → length l ≤ position_or_len p l → list_any p l ≡ false
+  none_past [] h = refl
+  none_past (x ∷ l) h = (elim (p x) as (λ b. suc (length l) ≤ cond (not b) (1 + position_or_len p l) 0 → b || list_any p l ≡ false) [ true ↦ λ k. absurd (omega arith) | false ↦ λ k. none_past l (omega arith) ]) h
+
+  any_at : (l : List A) (i : ℕ) (z : A) → i < length l → p (get_or l i z) ≡ true → list_any p l ≡ true
+  any_at [] i z h e = absurd (omega arith)
+  any_at (x ∷ l) zero z h e = rw e refl
+  any_at (x ∷ l) (suc i) z h e = or_true_right (p x) _ (any_at l i z (omega arith) e)
+
+  -- where one is found, one passes
+  pub some_found : (l : List A) (i : ℕ) (z : A) → Some i ≡ position p l → list_any p l ≡ true
+  some_found l i z e = let h = position-Some p l i z (sym e) in any_at l i z h.0 h.1
+
+  -- where none is found, none passes
+  pub none_found : (l : List A) → None ≡ position p l → list_any p l ≡ false
+  none_found l e = none_past l (ltb-false (position_or_len p l) (length l) ((elim (ltb (position_or_len p l) (length l)) as (λ b. None ≡ cond b (Some (position_or_len p l)) None → b ≡ false) [ true ↦ λ k. cc | false ↦ λ k. refl ]) e))
+
+  pub change_none : (f : A → A) (l : List A) → list_any p l ≡ false → change p f l ≡ l
+  unfolding change
+  change_none f [] h = refl
+  change_none f (x ∷ l) h = (elim (p x) as (λ b. b || list_any p l ≡ false → cond b (f x ∷ l) (x ∷ change p f l) ≡ x ∷ l) [ true ↦ λ k. not_both true refl k | false ↦ λ k. ap (λ r. x ∷ r) (change_none f l k) ]) h
+
+  -- none but the last passes
+  pub change_last : (f : A → A) (l : List A) (a : A) → list_any p l ≡ false → p a ≡ true → change p f (l ++ (a ∷ [])) ≡ l ++ (f a ∷ [])
+  unfolding change
+  change_last f [] a h e = rw e
+  change_last f (x ∷ l) a h e = (elim (p x) as (λ b. b || list_any p l ≡ false → cond b (f x ∷ (l ++ (a ∷ []))) (x ∷ change p f (l ++ (a ∷ []))) ≡ x ∷ (l ++ (f a ∷ []))) [ true ↦ λ k. not_both true refl k | false ↦ λ k. ap (λ r. x ∷ r) (change_last f l a k e) ]) h
+
+-- a write through the slice of all
+pub written : {A : Type 0} (v : ArrayVec A) (l : List A) (i : ℕ) (x : A) → l ≡ v.items → (with_items v (set l i x)).items ≡ set v.items i x
+written v l i x e = items-with_items v (set l i x) (length-set l i x ∙ ap length e) ∙ ap (λ k. set k i x) e
+
+own_writer : (g w : Guid) → is_writer g w (new_writer g w) ≡ true
+unfolding is_writer new_writer
+own_writer g w = and_true (same_guid g g) (same_guid w w) (same_refl g) (same_refl w)
+
+-- a known pair's writer, changed
+pub told_at : (g w : Guid) (f : Writer → Writer) (l : List Writer) (i : ℕ) (z : Writer) → Some i ≡ position (λ x. is_writer g w x) l → tell g w f l ≡ set l i (f (get_or l i z))
+unfolding tell hear_writer knows_writer
+told_at g w f l i z e = rw (some_found (λ x. is_writer g w x) l i z e) (change_found (λ x. is_writer g w x) f l i z e)
+
+-- a new pair's writer, changed
+pub told_new : (g w : Guid) (f : Writer → Writer) (l : List Writer) → None ≡ position (λ x. is_writer g w x) l → tell g w f l ≡ l ++ (f (new_writer g w) ∷ [])
+unfolding tell hear_writer knows_writer
+told_new g w f l e =
+    let h = none_found (λ x. is_writer g w x) l e in
+    rw h (change_last (λ x. is_writer g w x) f l (new_writer g w) h (own_writer g w))
+
+-- so there is room for it
+pub room_for_new : (g w : Guid) (l : List Writer) → None ≡ position (λ x. is_writer g w x) l → not (knows_writer g w l) && leb 32 (length l) ≡ false → length l < 32
+unfolding knows_writer
+room_for_new g w l e h = leb-false 32 (length l) (rw (none_found (λ x. is_writer g w x) l e) at h)

@@ -1,0 +1,33 @@
+// What the history stores of an offer. No rule looks into what a sample carries.
+
+// The end of a coherent set: its writer's first number in the set, and its own.
+#[derive(Clone, Copy, PartialEq, Eq, Debug)]
+pub struct SetEnd {
+    pub first: Option<i64>,
+    pub own: Option<i64>,
+}
+
+#[derive(Clone, Copy, PartialEq, Eq, Debug)]
+pub enum What<T> {
+    Sample(T),
+    End(SetEnd),
+}
+
+impl<T: Default> Default for What<T> {
+    fn default() -> What<T> {
+        What::Sample(T::default())
+    }
+}
+
+#[derive(Clone, Copy, PartialEq, Eq, Debug, Default)]
+pub struct Entry<T> {
+    pub group: [u8; 16],
+    pub writer: [u8; 16],
+    pub reader: u8,
+    pub number: u64,
+    pub set: Option<i64>,
+    pub what: What<T>,
+    pub time: u64,
+    // of a kept end whose set is ended: when the set's first committed end was offered
+    pub ended: Option<u64>,
+}

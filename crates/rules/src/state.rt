@@ -1,0 +1,154 @@
+// What the history knows of groups and writers, and its counts.
+ghost use Rattle.std.specs.Prelude.{◌≡◌};
+ghost use Rattle.rules.specs.Marks.{raise, saw, gapped, announced, announced_to};
+ghost use Rattle.rules.specs.State.{new_group, new_writer, is_group, is_writer};
+
+use guids::guid::same;
+
+// A known group: its highest number committed or passed, and the highest that a heartbeat announced.
+#[derive(Clone, Copy, PartialEq, Eq, Debug, Default)]
+pub struct Group {
+    pub guid: [u8; 16],
+    pub committed: u64,
+    pub announced: u64,
+}
+
+impl Group {
+    #[tactic(auto, unfolding(crate::specs::State::new_group))]
+    pub fn new(guid: [u8; 16]) -> Group
+        ensures { result ≡ new_group guid }
+    {
+        Group {
+            guid,
+            committed: 0,
+            announced: 0,
+        }
+    }
+
+    #[tactic(auto, unfolding(crate::specs::State::is_group))]
+    pub fn is(&self, guid: [u8; 16]) -> bool
+        ensures { result ≡ is_group guid self.now }
+    {
+        same(guid, self.guid)
+    }
+
+    // A heartbeat raises the announced number.
+    #[tactic(auto, unfolding(crate::specs::Marks::announced_to))]
+    pub fn announced_to(self, current: u64) -> Group
+        ensures { result ≡ announced_to current self }
+    {
+        Group {
+            announced: self.announced.max(current),
+            ..self
+        }
+    }
+}
+
+// A known pair of group and writer: per reader the highest number seen and the highest gap end; the range and the current
+// number of its last heartbeat (0 before any), and the digests that it sent last.
+#[derive(Clone, Copy, PartialEq, Eq, Debug, Default)]
+pub struct Writer {
+    pub group: [u8; 16],
+    pub writer: [u8; 16],
+    pub seen: [u64; 8],
+    pub gaps: [u64; 8],
+    pub first: u64,
+    pub last: u64,
+    pub current: u64,
+    pub digest: Option<u32>,
+    pub secure: Option<u32>,
+}
+
+// The reader's mark raised to n; of a reader above 7 there is none.
+#[tactic(auto, unfolding(crate::specs::Marks::raise))]
+fn raised(marks: [u64; 8], reader: u8, n: u64) -> [u64; 8]
+    ensures { result ≡ raise marks reader n }
+{
+    let mut marks = marks;
+    let r = usize::from(reader);
+    if r < 8 {
+        marks[r] = marks[r].max(n);
+    }
+    marks
+}
+
+impl Writer {
+    // Nothing is seen of it yet.
+    #[tactic(auto, unfolding(crate::specs::State::new_writer))]
+    pub fn new(group: [u8; 16], writer: [u8; 16]) -> Writer
+        ensures { result ≡ new_writer group writer }
+    {
+        Writer {
+            group,
+            writer,
+            seen: [0; 8],
+            gaps: [0; 8],
+            first: 0,
+            last: 0,
+            current: 0,
+            digest: None,
+            secure: None,
+        }
+    }
+
+    #[tactic(auto, unfolding(crate::specs::State::is_writer))]
+    pub fn is(&self, group: [u8; 16], writer: [u8; 16]) -> bool
+        ensures { result ≡ is_writer group writer self.now }
+    {
+        same(group, self.group) && same(writer, self.writer)
+    }
+
+    // An offer raises the highest number seen and stores the digest.
+    #[tactic(auto, unfolding(crate::specs::Marks::saw))]
+    pub fn saw(self, reader: u8, number: u64, digest: u32) -> Writer
+        ensures { result ≡ saw reader number digest self }
+    {
+        Writer {
+            seen: raised(self.seen, reader, number),
+            digest: Some(digest),
+            ..self
+        }
+    }
+
+    // A gap raises the gap end.
+    #[tactic(auto, unfolding(crate::specs::Marks::gapped))]
+    pub fn gapped(self, reader: u8, number: u64) -> Writer
+        ensures { result ≡ gapped reader number self }
+    {
+        Writer {
+            gaps: raised(self.gaps, reader, number),
+            ..self
+        }
+    }
+
+    // A heartbeat replaces range, current number and secure digest, and the writer digest only if it has one.
+    #[tactic(auto, unfolding(crate::specs::Marks::announced, crate::specs::Marks::or_keep))]
+    pub fn announced(
+        self,
+        first: u64,
+        last: u64,
+        current: u64,
+        digest: Option<u32>,
+        secure: Option<u32>,
+    ) -> Writer
+        ensures { result ≡ announced first last current digest secure self }
+    {
+        Writer {
+            first,
+            last,
+            current,
+            digest: digest.or(self.digest),
+            secure,
+            ..self
+        }
+    }
+}
+
+// Numbers skipped, sets discarded, their members, late offers; each stops at 2^64 - 1.
+#[derive(Clone, Copy, PartialEq, Eq, Debug, Default)]
+pub struct ReleaseCounts {
+    pub skipped_after_timeout: u64,
+    pub incomplete_sets: u64,
+    pub discarded_samples: u64,
+    pub late_samples: u64,
+}

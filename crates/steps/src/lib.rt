@@ -1,4 +1,0 @@
-// The steps of a release.
-#![tactic(auto)]
-
-pub mod steps;
