@@ -19,9 +19,10 @@ use oracle::replay::{Replay, LONGEST_WALK};
 #[global_allocator]
 static HEAP: heap::Counting = heap::Counting;
 
-/// Bytes of the words that hold the port's history and the rows of its
-/// releases.
-const PORT_STATE: usize = (6984 + 1307) * 8;
+/// Bytes of the port's `Calls`, the history and the rows of its releases: as
+/// many as a start fills (`objdump -d` of the library, the first `memset` of
+/// `gubrestal_run_list`).
+const PORT_STATE: usize = 80_944;
 
 extern "C" {
     fn gubrestal_run_list(text: *const u8, length: usize, out: *mut u8, room: usize) -> usize;

@@ -29,6 +29,7 @@ pub fn number_if(fields: &mut Fields<'_>) -> Option<Option<i64>>
     Some(Some(number))
 }
 
+// Beside `number_if`: one function that takes the reader would need a clause on what it answers, longer than both.
 pub fn word_if(fields: &mut Fields<'_>) -> Option<Option<u32>>
     ensures number { result ≡ first_as (λ f. optional (up_to (2 ^ 32 - 1) f) f) (left fields.old) }
     ensures next { Passes fields.old fields.new }

@@ -3,7 +3,7 @@
 
 ghost use Rattle.std.specs.Prelude.{◌≡◌, ℕ, List, Option, true, length, drop, option_map, option_and_then};
 ghost use Rattle.fields.specs.Fields.{fields_of};
-ghost use Rattle.fields.specs.Cursor.{line_in};
+ghost use Rattle.fields.specs.Front.{line_in};
 ghost use Rattle.fields.specs.Left.{left, behind, behind_newline};
 ghost use Rattle.call_line.specs.Line.{line_of};
 ghost use Rattle.call_line.specs.Taken.{offer_by, take_head, take_timeout, take_counted, take_digest, take_sample, take_end, take_heartbeat, take_gap, take_release};

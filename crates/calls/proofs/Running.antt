@@ -55,16 +55,9 @@ ran_said {n} {out = out} x h f k g = record {
   text = λ c t. x.is ∙ ap (λ k. take n (out ++ k)) (g c t);
 }
 
-pub ran_bad : {n : ℕ} {d : Calls} {out out' : List ℕ} → Said n bad out out' → Ran n None d d out out'
-ran_bad x = ran_said x (omega arith) (λ c s. s) (λ c s. refl) (λ c s. refl)
-
 -- the calls before it as their view
 pub ran_from : {n : ℕ} {l : Option Line} {d e d' : Calls} {out out' : List ℕ} → d ≡ e → Ran n l d d' out out' → Ran n l e d' out out'
 ran_from {n} {l} {d} {e} {d'} {out} {out'} q x = subst (λ y. Ran n l y d' out out') q x
-
--- of the line that is run
-pub ran_line : {n : ℕ} {l k : Option Line} {d d' : Calls} {out out' : List ℕ} → l ≡ k → Ran n l d d' out out' → Ran n k d d' out out'
-ran_line {n} {l} {k} {d} {d'} {out} {out'} q x = subst (λ y. Ran n y d d' out out') q x
 
 -- ---- a call of the history, which leaves the rows
 

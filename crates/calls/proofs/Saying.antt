@@ -12,9 +12,6 @@ use Rattle.calls.specs.Said.{Said, place_text, places_text}
 pub said : {n : ℕ} {s out out' : List ℕ} → out' ≡ take n (out ++ s) → Said n s out out'
 said e = record { is = e }
 
-pub said_nothing : {n : ℕ} (out : List ℕ) → length out ≤ n → Said n [] out out
-said_nothing {n} out h = said (sym (take_all n out h) ∙ ap (λ t. take n t) (sym (append-nil out)))
-
 -- what is said next is put behind
 pub said_both : {n : ℕ} {a b out m out' : List ℕ} → Said n a out m → Said n b m out' → Said n (a ++ b) out out'
 said_both {n} {a} {b} {out} x y =

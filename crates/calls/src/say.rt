@@ -6,7 +6,7 @@ ghost use Rattle.calls.specs.Run.{refused_text, counts_text, offer_text, done_te
 ghost use Rattle.calls.specs.Said.{Said, place_text, places_text};
 
 use arrayvec::ArrayVec;
-use decimal::text::{put_bytes, put_unsigned};
+use decimal::text::{put_byte, put_bytes, put_unsigned};
 use refusals::Refusal;
 use rules::call::Fate;
 use rules::state::ReleaseCounts;
@@ -15,7 +15,7 @@ use rules::state::ReleaseCounts;
 fn put_spaced<const N: usize>(text: &mut ArrayVec<u8, N>, n: u64)
     ensures { Said N (32 ∷ digits_of n) text.old.items text.new.items }
 {
-    put_bytes(text, b" ");
+    put_byte(text, b' ');
     put_unsigned(text, n);
 }
 
@@ -61,7 +61,7 @@ fn put_sample<const N: usize>(text: &mut ArrayVec<u8, N>, place: u64)
     ensures { Said N (place_text place) text.old.items text.new.items }
 {
     put_spaced(text, place / 4294967296);
-    put_bytes(text, b":");
+    put_byte(text, b':');
     put_unsigned(text, place % 4294967296);
 }
 

@@ -11,6 +11,7 @@ pub(crate) fn write_members(out: &mut [u64], members: &[Member])
     requires { length members.now * 5 ≤ length out.old }
     ensures { out.new ≡ written (map (λ m. member_as m) members.now) out.old }
 {
+    // by place: what goes through `chunks_exact_mut` is lost to the proof
     for (k, member) in members.iter().enumerate() {
         write_item(out, k, Item::from(*member));
     }

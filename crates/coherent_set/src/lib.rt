@@ -2,10 +2,7 @@
 #![tactic(auto)]
 
 ghost use Rattle.std.specs.Prelude.{◌≡◌, negsuc};
-ghost use Rattle.std.specs.Int.{w64};
-ghost use Rattle.std.proofs.Common.{of_z, to_z};
 ghost use Rattle.laws.specs.Answer.{Kept};
-ghost use Rattle.laws.specs.Bytes.{bytes_of};
 ghost use Rattle.refusals.specs.Refusal.{answer_as};
 ghost use Rattle.coherent_set.specs.Marker.{wire, decode, marker_answer_as};
 ghost use Rattle.coherent_set.specs.Scope.{fresh_scope, active_scope, marker_of, marker_as, begin_coherent, end_coherent};
@@ -50,28 +47,6 @@ impl CoherentSetMarker {
         let bytes = <[u8; 8]>::try_from(bytes).map_err(|_| Refusal::NotEightBytes)?;
         Ok(CoherentSetMarker::new(i64::from_be_bytes(bytes)))
     }
-}
-
-// The 64 bits of a number, two's complement.
-pub fn bits_of(x: i64) -> u64
-    ensures { result ≡ of_z w64 x }
-{
-    x.cast_unsigned()
-}
-
-// The number that 64 bits stand for.
-pub fn signed_of(n: u64) -> i64
-    ensures { result ≡ to_z w64 n }
-{
-    n.cast_signed()
-}
-
-// The eight bytes of a number, the most significant first.
-#[tactic(auto, using(crate::proofs::Marker::be_bytes_of))]
-pub fn bytes_of(n: u64) -> [u8; 8]
-    ensures { result ≡ bytes_of 8 n }
-{
-    n.to_be_bytes()
 }
 
 // The publisher's scope: the number of the open set's first sample, if a set is open.

@@ -5,9 +5,8 @@ use Rattle.std.specs.Bool.{then_some}
 use Rattle.std.specs.Result.{OkIff, result_ok}
 use mir.Syntax.{w64}
 use mir.Val.{SFits}
-use Rattle.std.proofs.lemmas.List.{take_all, drop-drop, get_or-take}
+use Rattle.std.proofs.lemmas.List.{take_all, drop-drop}
 use Rattle.std.proofs.lemmas.List.Sums.{prefix_len-le-length}
-use Rattle.std.proofs.lemmas.List.Folds.{length-prefix_len}
 use Rattle.std.proofs.lemmas.Bool.{leb-true, leb-false, eqb-true, eqb-false}
 use Rattle.decimal.specs.Read.{given, is_digit, read_on, at_most, plain, read_number, read_unsigned, plus, minus, read_signed, unsigned_len, unsigned_front, sign_len, signed_len, signed_front}
 use Rattle.decimal.proofs.Reading.{at_most_both, read_above, signed_minus, signed_plus}
@@ -38,17 +37,9 @@ front_none : (s : List ℕ) → unsigned_len s ≡ 0 → unsigned_front s ≡ []
 unfolding unsigned_front
 front_none s e = rw e
 
-pub front_length : (s : List ℕ) → length (unsigned_front s) ≡ unsigned_len s
-unfolding unsigned_front unsigned_len
-front_length s = length-prefix_len (λ b. is_digit b) s
-
 pub len_le : (s : List ℕ) → unsigned_len s ≤ length s
 unfolding unsigned_len
 len_le s = prefix_len-le-length (λ b. is_digit b) s
-
-front_head : (s : List ℕ) → 0 < unsigned_len s → get_or (unsigned_front s) 0 0 ≡ get_or s 0 0
-unfolding unsigned_front
-front_head s h = get_or-take (unsigned_len s) s 0 0 h
 
 -- ---- digit by digit
 
@@ -151,10 +142,6 @@ module _ (s t : List ℕ) (n : Option ℕ) (d : Digits s n t) (e : unsigned_len 
   unfolding onward
   all_number = d.number ∙ at_end n d.fits
 
-  pub all_front : take (length s - length t) s ≡ unsigned_front s
-  unfolding unsigned_front
-  all_front = rw all_len
-
   pub plain_front : plain (unsigned_front s) ≡ true → n ≡ read_unsigned (unsigned_front s)
   unfolding read_unsigned read_number given
   plain_front p = rw p (sym all_number)
@@ -186,11 +173,7 @@ module _ (s : List ℕ) (i n : ℕ) (d : Digits s (Some n) (drop i s)) (h : i �
   pub part_front : then_some (plain (take i s)) n ≡ read_unsigned (unsigned_front s)
   part_front = rw front_is (by_plain (plain (unsigned_front s)) refl)
 
--- ---- the whole text
-
-front_all : (s : List ℕ) → length (drop (unsigned_len s) s) ≡ 0 → unsigned_front s ≡ s
-unfolding unsigned_front
-front_all s e = take_all (unsigned_len s) s (omega (arith, length-drop (unsigned_len s) s))
+-- ---- a text that is not all digits
 
 -- a byte that is no digit
 read_other : (v : ℕ) (s : List ℕ) → 0 < length (drop (unsigned_len s) s) → read_on v s ≡ None
@@ -210,14 +193,6 @@ given_nothing false = refl
 pub part_none : (s : List ℕ) → 0 < length (drop (unsigned_len s) s) → read_unsigned s ≡ None
 unfolding read_unsigned read_number
 part_none s h = rw (read_other 0 s h) (given_nothing (plain s))
-
--- the rest behind the digits is t
-module _ (s t : List ℕ) (n : Option ℕ) (p : n ≡ read_unsigned (unsigned_front s)) (q : t ≡ drop (unsigned_len s) s) where
-  pub whole_number : length t ≡ 0 → n ≡ read_unsigned s
-  whole_number e = rw (front_all s (rw (← q) e)) at p
-
-  pub part_number : 0 < length t → None ≡ read_unsigned s
-  part_number h = sym (part_none s (rw (← q) h))
 
 -- ---- with a sign, or without
 
@@ -261,10 +236,6 @@ module _ (s : List ℕ) (p : get_or s 0 0 ≡ 45 → ⊥) where
   unfolding signed_front unsigned_front
   plus_number = rw plus_len (signed_plus (unsigned_front s) (λ e. p (front_no_sign s e)))
 
-signed_all : (s : List ℕ) → length (drop (signed_len s) s) ≡ 0 → signed_front s ≡ s
-unfolding signed_front
-signed_all s e = take_all (signed_len s) s (omega (arith, length-drop (signed_len s) s))
-
 pub signed_part : (s : List ℕ) → 0 < length (drop (signed_len s) s) → None ≡ read_signed s
 unfolding plus minus at_most
 signed_part [] h = absurd (omega (arith, length-drop {A = ℕ} (signed_len []) []))
@@ -279,14 +250,6 @@ signed_part (b ∷ s) h =
           let k : 0 < length (drop (unsigned_len (b ∷ s)) (b ∷ s)) = rw (plus_behind (b ∷ s) f) h in
           rw (signed_plus (b ∷ s) f, part_none (b ∷ s) k)
     ]) refl
-
--- the rest behind the number is t
-module _ (s t : List ℕ) (n : Option ℤ) (p : n ≡ read_signed (signed_front s)) (q : t ≡ drop (signed_len s) s) where
-  pub whole_signed : length t ≡ 0 → n ≡ read_signed s
-  whole_signed e = rw (signed_all s (rw (← q) e)) at p
-
-  pub part_signed : 0 < length t → None ≡ read_signed s
-  part_signed h = signed_part s (rw (← q) h)
 
 -- ---- in 64 bits
 

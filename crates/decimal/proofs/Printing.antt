@@ -15,7 +15,7 @@ digits_room zero (suc k) n a b = simp (lt-ltb n 10 a)
 digits_room (suc j) zero n a b = simp (lt-ltb n 10 b)
 digits_room (suc j) (suc k) n a b = ap (one_or (ltb n 10) n) (digits_room j k (n / 10) (omega arith) (omega arith))
 
-digits_one : (n : ℕ) → n < 10 → digits_of n ≡ (48 + n) ∷ []
+pub digits_one : (n : ℕ) → n < 10 → digits_of n ≡ (48 + n) ∷ []
 unfolding digits_of digits_in one_or
 digits_one n h = simp (lt-ltb n 10 h)
 

@@ -12,11 +12,11 @@ use lib.Seq.{paste, paste-zero, take-length, take_all, take-append-le, take-appe
 use Rattle.decimal.specs.Print.{put}
 
 module _ (out : List ℕ) (at : ℕ) (s : List ℕ) where
-  pub put_all : length s ≤ length out - at → (at + length s, paste out at s (length s)) ≡ put out at s
+  put_all : length s ≤ length out - at → (at + length s, paste out at s (length s)) ≡ put out at s
   unfolding put
   put_all h = rw (min-eq_left h, take-length s, take_all (length out - at) s h, append_assoc)
 
-  pub put_full : (k : ℕ) → k ≡ length out - at → k ≤ length s → (at + k, paste out at s k) ≡ put out at s
+  put_full : (k : ℕ) → k ≡ length out - at → k ≤ length s → (at + k, paste out at s k) ≡ put out at s
   unfolding put
   put_full k e h =
       rw (
@@ -26,6 +26,19 @@ module _ (out : List ℕ) (at : ℕ) (s : List ℕ) where
         drop_of_length-le out {i = at + length s} (omega arith),
         append_assoc,
       )
+
+  -- as many as there are, or as there is room for
+  pub put_part : (n : ℕ) → n ≡ min (length s) (length out - at) → (at + n, paste out at s n) ≡ put out at s
+  put_part n e =
+      (elim (leb (length s) (length out - at)) as (λ t. leb (length s) (length out - at) ≡ t → (at + n, paste out at s n) ≡ put out at s) [
+        | true ↦ λ q.
+            let h = leb-true (length s) (length out - at) q in
+            let k : n ≡ length s = e ∙ min-eq_left h in
+            rw k (put_all h)
+        | false ↦ λ q.
+            let h = leb-false (length s) (length out - at) q in
+            put_full n (e ∙ min-eq_right (omega arith)) (omega arith)
+      ]) refl
 
   put_zero : ◌≡◌ {A = ℕ × List ℕ} (at, out) (at + 0, paste out at s 0)
   put_zero =
@@ -83,18 +96,6 @@ put_next out at (b ∷ s) t =
           subst P (put_full out at l m refl (omega arith)) (next_full out at l t m refl (omega arith))
     ]) refl
 
-pub puts : (out : List ℕ) (at : ℕ) (s t : List ℕ) {mid out' : List ℕ} {next r : ℕ}
-    → (next, mid) ≡ put out at s → (r, out') ≡ put mid next t → (r, out') ≡ put out at (s ++ t)
-puts out at s t p q = q ∙ ap (λ (w : ℕ × List ℕ). put w.1 w.0 t) p ∙ put_next out at s t
-
--- at the front, where it fits
-pub put_front : (out s : List ℕ) → length s ≤ length out → put out 0 s ≡ (length s, s ++ drop (length s) out)
-unfolding put
-put_front out s h =
-    let z : 0 + length s ≡ length s = omega arith in
-    let e : 0 + min (length s) (length out - 0) ≡ length s = omega arith in
-    rw (e, z, take_all (length out - 0) s (omega arith))
-
 -- ---- behind what a list of at most n bytes holds
 
 -- what is put next is put behind
@@ -102,20 +103,3 @@ pub put_behind : (n : ℕ) (a s : List ℕ) → take n (take n a ++ s) ≡ take 
 put_behind zero a s = refl
 put_behind (suc n) [] s = refl
 put_behind (suc n) (b ∷ a) s = ap (λ (l : List ℕ). b ∷ l) (put_behind n a s)
-
--- the same bytes as put over those of a list from the place behind
-pub put_taken : (out : List ℕ) (at : ℕ) (s : List ℕ) → at ≤ length out
-    → take (put out at s).0 (put out at s).1 ≡ take (length out) (take at out ++ s)
-unfolding put
-put_taken out at s h =
-    let m = min (length s) (length out - at) in
-    let k = length out - at in
-    let l : length (take at out) ≡ at = omega (arith, length-take at out) in
-    let e : length out ≡ length (take at out) + k = omega arith in
-    let f : at + m ≡ length (take at out) + m = omega arith in
-    let g : length (take k s) ≡ m = omega (arith, length-take k s) in
-    ap (λ (i : ℕ). take i (take at out ++ (take k s ++ drop (at + length s) out))) f
-    ∙ take-append-add (take at out) (take k s ++ drop (at + length s) out) m
-    ∙ ap (λ (t : List ℕ). take at out ++ t) (take-append-le m (take k s) (drop (at + length s) out) (omega arith) ∙ take_all m (take k s) (omega arith))
-    ∙ sym (take-append-add (take at out) s k)
-    ∙ ap (λ (i : ℕ). take i (take at out ++ s)) (sym e)

@@ -1,5 +1,5 @@
 // Text put behind what a list holds already, as far as the list has room: what doesn't fit is left out, and nothing fails.
-ghost use Rattle.std.specs.Prelude.{◌≡◌, ◌++◌, take};
+ghost use Rattle.std.specs.Prelude.{◌≡◌, [], ◌∷◌, ◌++◌, take};
 ghost use Rattle.decimal.specs.Print.{digits_of, signed_digits};
 
 use arrayvec::ArrayVec;
@@ -12,10 +12,19 @@ pub fn put_bytes<const N: usize>(out: &mut ArrayVec<u8, N>, s: &[u8])
     let _ = out.try_extend_from_slice(&s[..fitting]);
 }
 
+pub fn put_byte<const N: usize>(out: &mut ArrayVec<u8, N>, byte: u8)
+    ensures { out.new.items ≡ take N (out.old.items ++ byte ∷ []) }
+{
+    let _ = out.try_push(byte);
+}
+
 // n's decimal digits.
 pub fn put_unsigned<const N: usize>(out: &mut ArrayVec<u8, N>, n: u64)
     ensures { out.new.items ≡ take N (out.old.items ++ digits_of n) }
 {
+    if n < 10 {
+        return put_byte(out, b'0' + n as u8); // most are one digit: readers, counts
+    }
     let mut digits = Buffer::new();
     put_bytes(out, digits.format(n).as_bytes());
 }

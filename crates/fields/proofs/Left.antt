@@ -9,8 +9,7 @@ use Rattle.std.proofs.lemmas.List.{take_all, drop-drop}
 use Rattle.decimal.specs.Read.{given, is_digit, read_unsigned, read_signed, at_most, unsigned_len, unsigned_front, sign_len, signed_len, signed_front}
 use Rattle.decimal.proofs.Fronts.{len_le, part_none, signed_part}
 use Rattle.fields.specs.Fields.{lengthen, fields_of, only, up_to}
-use Rattle.fields.proofs.OnePass.{only_head, head_is}
-use Rattle.fields.specs.Cursor.{ends, line_in, line_end, field_in}
+use Rattle.fields.specs.Front.{ends, line_in, field_in}
 use Rattle.fields.specs.declared.line.Fields.{Fields}
 use Rattle.fields.specs.Left.{left, behind, Passes, first_as, sole, is_dash, behind_newline, PartRead, next_fields, next_behind}
 
@@ -126,10 +125,13 @@ module _ (nl : Bool) (t : List ℕ) (f : Fields) (n : f.newlines ≡ nl) where
     unfolding behind
     other_behind = rw (r, n) (line_behind nl t ∙ rw e)
 
-pub space_first : (s : List ℕ) → get_or s 0 0 ≡ 32 → s ≡ 32 ∷ take (length s - 1) (drop 1 s)
-space_first [] e = absurd (omega arith)
-space_first (b ∷ s) e =
+pub first_is : (a : ℕ) (s : List ℕ) → 0 < a → get_or s 0 0 ≡ a → s ≡ a ∷ take (length s - 1) (drop 1 s)
+first_is a [] h e = absurd (omega arith)
+first_is a (b ∷ s) h e =
     let n : suc (length s) - 1 ≡ length s = omega arith in rw (e, n, take_all (length s) s (omega arith))
+
+pub space_first : (s : List ℕ) → get_or s 0 0 ≡ 32 → s ≡ 32 ∷ take (length s - 1) (drop 1 s)
+space_first s e = first_is 32 s (omega arith) e
 
 pub newline_behind : (l : List ℕ) (b : ℕ) (u : List ℕ) → l ≡ b ∷ u → Some u ≡ behind_newline l
 unfolding behind_newline
@@ -288,15 +290,34 @@ field_found nl s r found e h =
     let m : MatchOption (cond (ltb n (length s)) (Some n) None) (r ≡ length s) (λ n. r ≡ n) = rw (field_position nl s, ← e) h in
     at_place (length s) n r (ltb n (length s)) m q
 
-pub line_length : (nl : Bool) (s : List ℕ) → line_end nl 0 s ≡ length (line_in nl s)
-unfolding line_end
-line_length nl s = omega arith
-
 pub line_short : (nl : Bool) (s : List ℕ) → length (line_in nl s) ≤ length s
 unfolding line_in
 line_short nl [] = omega arith
 line_short nl (b ∷ s) =
     (elim (ends nl b) as (λ t. length (cond t [] (b ∷ line_in nl s)) ≤ suc (length s)) [ true ↦ omega arith | false ↦ omega (arith, line_short nl s) ])
+
+pub line_whole : (s : List ℕ) → line_in false s ≡ s
+unfolding line_in ends
+line_whole [] = refl
+line_whole (b ∷ s) = ap (λ t. b ∷ t) (line_whole s)
+
+line_position : (s : List ℕ) → length (line_in true s) ≡ position_or_len (λ b. eqb b 10) s
+unfolding line_in ends
+line_position s =
+    is_position_or_len (λ s. length (line_in true s)) (λ b. eqb b 10) refl (λ b s. by_test (eqb b 10) b (line_in true s)) s
+
+-- the first newline, or the text's end
+pub line_found : (s : List ℕ) (found : Option ℕ)
+    → found ≡ cond (ltb (position_or_len (λ b. eqb b 10) s) (length s)) (Some (position_or_len (λ b. eqb b 10) s)) None
+    → unwrap_or found (length s) ≡ length (line_in true s)
+line_found s found e =
+    let n = length (line_in true s) in
+    let f : found ≡ cond (ltb n (length s)) (Some n) None = rw (line_position s) e in
+    rw f
+    ((elim (ltb n (length s)) as (λ t. ltb n (length s) ≡ t → unwrap_or (cond t (Some n) None) (length s) ≡ n) [
+      | true ↦ λ k. refl
+      | false ↦ λ k. omega (arith, ltb-false n (length s) k, line_short true s)
+    ]) refl)
 
 -- ---- numbers
 
@@ -432,40 +453,3 @@ pub narrowed : {E : Type 0} (m n : ℕ) (l : List (List ℕ)) (r : Result ℕ E)
 unfolding at_most given
 narrowed m n l (Ok x) e h = rw (← narrow_some m n l e, le-leb n m (omega (arith, h.0))) (ap (λ z. Some z) h.1)
 narrowed m n l (Err x) e h = limit_fits m n (leb n m) refl h ∙ narrow_some m n l e
-
--- ---- letters and dashes
-
-pub sole_one : (f : List ℕ) → length f ≡ 1 → Some (get_or f 0 0) ≡ sole f
-unfolding sole
-sole_one [] e = absurd (omega arith)
-sole_one (b ∷ []) e = refl
-sole_one (b ∷ c ∷ f) e = absurd (omega arith)
-
-pub sole_other : (f : List ℕ) → (length f ≡ 1 → ⊥) → None ≡ sole f
-unfolding sole
-sole_other [] e = refl
-sole_other (b ∷ []) e = absurd (e refl)
-sole_other (b ∷ c ∷ f) e = refl
-
-only_sole : (f : List ℕ) → only f ≡ unwrap_or (sole f) 0
-unfolding only sole
-only_sole [] = refl
-only_sole (b ∷ []) = refl
-only_sole (b ∷ c ∷ f) = refl
-
-pub dash_letter : (l : List (List ℕ)) → is_dash l ≡ eqb (unwrap_or (first_as (λ t. sole t) l) 0) 45
-unfolding is_dash first_as
-dash_letter [] = refl
-dash_letter (f ∷ l) = ap (λ b. eqb b 45) (only_sole f)
-
--- a field that begins with another byte
-pub no_dash : (f : Fields) → (get_or f.rest.now 0 0 ≡ 45 → ⊥) → false ≡ is_dash (left f)
-unfolding is_dash
-no_dash f z =
-    (elim f.more as (λ t. f.more ≡ t → false ≡ is_dash (left f)) [
-      | true ↦ λ m.
-          rw (some_left f m)
-          (sym (ne_eqb (only (field_in f.newlines f.rest.now)) 45 (λ e.
-          let h = only_head (field_in f.newlines f.rest.now) e in z (sym (head_is f.newlines f.rest.now 0 h.0) ∙ h.1))))
-      | false ↦ λ m. rw (none_left f m)
-    ]) refl

@@ -1,4 +1,3 @@
+pub mod Dashes
 pub mod Fields
-pub mod OnePass
-mod Told
 pub mod Left

@@ -1,6 +1,5 @@
 -- The fields of a line of text, and what one spells.
-use Rattle.std.specs.Prelude.{ℕ, ◌-◌, ◌^◌, Bool, true, false, cond, List, [], ◌∷◌, eqb, ℤ, get_or}
-use Rattle.std.specs.Prelude.{Option, None, Some}
+use Rattle.std.specs.Prelude.{ℕ, ◌-◌, ◌^◌, cond, List, [], ◌∷◌, eqb, ℤ, get_or, Option}
 use Rattle.decimal.specs.Read.{at_most, read_unsigned, read_signed}
 
 -- one byte more in front of the first field
@@ -39,8 +38,3 @@ long k l = read_unsigned (field_at k l)
 
 unfoldable pub number : ℕ → List ℕ → Option ℤ
 number k l = read_signed (field_at k l)
-
--- whether a field is good, and what it spells; z where it is bad
-unfoldable pub told_or : {A : Type 0} → A → Option A → Bool × A
-told_or z None = (false, z)
-told_or z (Some v) = (true, v)

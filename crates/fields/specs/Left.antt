@@ -2,7 +2,7 @@
 use Rattle.std.specs.Prelude.{◌≡◌, ℕ, ◌≤◌, Bool, true, false, cond, List, [], ◌∷◌, eqb, length, drop}
 use Rattle.std.specs.Prelude.{Option, None, Some}
 use Rattle.fields.specs.Fields.{fields_of, only}
-use Rattle.fields.specs.Cursor.{line_in, field_in}
+use Rattle.fields.specs.Front.{line_in, field_in}
 use Rattle.fields.specs.declared.line.Fields.{Fields}
 
 unfoldable pub left : Fields → List (List ℕ)

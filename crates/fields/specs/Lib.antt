@@ -1,3 +1,3 @@
 pub mod Fields
-pub mod Cursor
+pub mod Front
 pub mod Left

@@ -4,15 +4,15 @@ ghost use Rattle.std.specs.Prelude.{◌≡◌, ◌+◌, ◌-◌, ◌^◌, ◌≤
 ghost use Rattle.std.specs.Bool.{OnTrue, OnFalse};
 ghost use Rattle.decimal.specs.Read.{read_unsigned, read_signed};
 ghost use Rattle.fields.specs.Fields.{fields_of, up_to};
-ghost use Rattle.fields.specs.Cursor.{ends, line_in, field_in};
+ghost use Rattle.fields.specs.Front.{ends, line_in, field_in};
 ghost use Rattle.fields.specs.Left.{left, behind, Passes, first_as, sole, is_dash, behind_newline, PartRead, next_fields, next_behind};
 
-use decimal::{field_end, split_signed, split_unsigned};
+use decimal::{split_signed, split_unsigned};
 
 #[derive(Clone, Copy)]
 pub struct Fields<'a> {
     rest: &'a [u8], // from the next field on, or from the line's end
-    more: bool, // whether there is a next field
+    more: bool, // whether there is a next field; a flag and no Option, since the rest of the text is read behind the last one too
     newlines: bool, // whether the line ends at a newline, or with the text
 }
 
@@ -110,15 +110,14 @@ impl<'a> Fields<'a> {
         ensures next { OnTrue result (Passes self.old self.new) }
         ensures other { OnFalse result (self.new ≡ self.old) }
     {
-        if self.rest.is_empty() || self.rest[0] != b'-' {
+        if !self.more || self.rest.is_empty() || self.rest[0] != b'-' {
             return false;
         }
-        let mut next = *self;
-        if next.letter().unwrap_or(0) != b'-' {
-            return false;
+        let behind = &self.rest[1..];
+        if field_len(behind, self.newlines) != 0 {
+            return false; // a negative number, say
         }
-        *self = next;
-        true
+        self.pass(behind)
     }
 
     // Whether no field is left.
@@ -196,7 +195,7 @@ fn line_len(s: &[u8], newlines: bool) -> usize
     ensures within { result ≤ length s.now }
 {
     if newlines {
-        field_end(s, 0, b'\n')
+        s.iter().position(|b| *b == b'\n').unwrap_or(s.len())
     } else {
         s.len()
     }

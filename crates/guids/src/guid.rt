@@ -11,6 +11,7 @@ pub fn compare(a: [u8; 16], b: [u8; 16]) -> Ordering
     u128::from_be_bytes(a).cmp(&u128::from_be_bytes(b))
 }
 
+// As one number of 128 bits, which is faster than byte by byte, as `==` compares.
 pub fn same(a: [u8; 16], b: [u8; 16]) -> bool
     ensures { result ≡ same_guid a b }
 {

@@ -1,3 +1,2 @@
-mod Steps
 pub mod Spelled
 pub mod Laws

@@ -1,10 +1,9 @@
 -- Bytes put as digits, and read of digits, one by one.
-use Rattle.std.proofs.Common.{◌≡◌, ℕ, ◌+◌, ◌-◌, ◌*◌, ◌/◌, ◌%◌, ◌≤◌, ◌<◌, Bool, true, false, ◌&&◌, leb, eqb, ne_eqb, List, [], ◌∷◌, ◌++◌, length, get_or, take, drop, Option, Some, None, refl, sym, ap, ◌∙◌, arith, le-leb, append_assoc, append-nil, length-append, add-one}
-use Rattle.std.proofs.lemmas.Bool.{lt-leb, leb-true, leb-false, and_parts}
+use Rattle.std.proofs.Common.{◌≡◌, ℕ, zero, suc, ◌+◌, ◌-◌, ◌*◌, ◌/◌, ◌%◌, ◌≤◌, ◌<◌, Bool, true, false, ◌&&◌, leb, List, [], ◌∷◌, ◌++◌, length, get_or, take, drop, Option, Some, None, refl, sym, ap, ◌∙◌, arith, le-leb, append_assoc, append-nil, length-append, add-one}
+use Rattle.std.proofs.lemmas.Bool.{lt-leb, leb-true, and_parts}
 use Rattle.std.proofs.lemmas.List.{take_all}
 use Rattle.decimal.proofs.Putting.{put_behind}
-use Rattle.hex_digits.specs.Hex.{digit_of, hex_of, value_by, value_of, before, unhex, given, within, over_by, over, unhex_to}
-use Rattle.hex_digits.proofs.Steps.{hex_more}
+use Rattle.hex_digits.specs.Hex.{digit_of, hex_of, value_by, value_of, before, unhex, given, within}
 
 -- ---- a digit's value
 
@@ -44,6 +43,13 @@ value_small b n e =
     e
 
 -- ---- bytes put
+
+hex_more : (s : List ℕ) (i : ℕ) → i < length s
+    → hex_of (take i s) ++ (digit_of (get_or s i 0 / 16) ∷ digit_of (get_or s i 0 % 16) ∷ []) ≡ hex_of (take (suc i) s)
+unfolding hex_of
+hex_more [] i h = absurd (omega arith)
+hex_more (b ∷ s) zero h = refl
+hex_more (b ∷ s) (suc i) h = ap (λ (t : List ℕ). digit_of (b / 16) ∷ digit_of (b % 16) ∷ t) (hex_more s i (omega arith))
 
 pub put_none : (n : ℕ) (out : List ℕ) → length out ≤ n → out ≡ take n (out ++ hex_of [])
 unfolding hex_of
@@ -127,18 +133,3 @@ module _ (r : ℕ) (text xs s : List ℕ) (e : unhex text ≡ onto xs (unhex s))
 
     pub no_room : length xs ≡ r → None ≡ within r (unhex text)
     no_room l = rw read_more (over_room r (xs ++ (m * 16 + n) ∷ []) (unhex (drop 2 s)) (omega (arith, length-append xs ((m * 16 + n) ∷ []))))
-
--- ---- the same over a list of as many bytes
-
-over_within : (n : ℕ) (v : Option (List ℕ)) (l : List ℕ) → length l ≤ n → over v l ≡ over (within n v) l
-unfolding over over_by within given
-over_within n None l h = refl
-over_within n (Some s) l h =
-    (elim (leb (length s) n) as (λ t. leb (length s) n ≡ t → over_by (eqb (length s) (length l)) s l ≡ over (given t s) l) [
-      | true ↦ λ e. refl
-      | false ↦ λ e. rw (ne_eqb (length s) (length l) (λ q. omega (arith, q, leb-false (length s) n e)))
-    ]) refl
-
-pub filled : (n : ℕ) (text l : List ℕ) → length l ≤ n → unhex_to text l ≡ over (within n (unhex text)) l
-unfolding unhex_to
-filled n text l h = over_within n (unhex text) l h

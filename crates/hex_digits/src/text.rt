@@ -1,4 +1,4 @@
-// Bytes as text, two hex digits each, in lower case. The kit's crate `hex` puts its text on the heap, which a console's memory rules out.
+// Bytes as text, two hex digits each, in lower case. The kit's crate `hex` reads digits of upper case too, which are bad here.
 ghost use Rattle.std.specs.Prelude.{◌≡◌, ◌++◌, ◌<◌, take, option_map};
 ghost use Rattle.hex_digits.specs.Hex.{digit_of, hex_of, value_of, unhex, within};
 

@@ -8,7 +8,7 @@ use lib.Dec.{lit<}
 use lib.Arith.{digits_lt, digits_div, mod-mul}
 use lib.Pow.{pow-add}
 use lib.ListN.{length, get_or, take, drop, length-append, length-take}
-use lib.Seq.{take-suc, get_or-drop}
+use lib.Seq.{get_or-drop}
 use Rattle.laws.specs.Bytes.{bytes_of, number_of}
 
 -- every element is a byte
@@ -107,7 +107,3 @@ drop_bytes i bs h j = rw (get_or-drop i bs j 0) (h (i + j))
 pub number_of_take_lt : (bs : List ℕ) (i k : ℕ) → Bytes bs → i ≤ k → number_of (take i bs) < 256 ^ k
 number_of_take_lt bs i k h le =
     lt_of_lt_of_le (number_of_lt (take i bs) (take_bytes i bs h)) (pow-le-pow_right (lit< tt) (le_trans (omega (arith, length-take i bs)) le))
-
-pub number_of_take_suc : (bs : List ℕ) (i : ℕ) → i < length bs → number_of (take (suc i) bs) ≡ number_of (take i bs) * 256 + get_or bs i 0
-unfolding number_of
-number_of_take_suc bs i h = ap number_of (take-suc bs i 0 h) ∙ number_of_append (take i bs) (get_or bs i 0 ∷ []) ∙ omega arith

@@ -1,11 +1,11 @@
 -- Laws of lists under a test, over any element type and any test.
-use Prim.Native.Nat.{ℕ, zero, suc, ◌+◌, ◌≤◌, ◌<◌}
+use Prim.Native.Nat.{ℕ, suc, ◌+◌, ◌≤◌, ◌<◌}
 use mathlib.Core.Path.{◌≡◌, refl, sym, ap, ◌∙◌}
 use mathlib.Core.Bool.{Bool, true, false, ◌&&◌, ◌||◌, not, cond}
 use mathlib.Core.List.{List, [], ◌∷◌, ◌++◌, map, append-nil}
 use Rattle.std.specs.Prelude.{Option, Some, None}
 use native.Mathlib.Omega.{arith}
-use lib.ListN.{length, take, length-append, length-map}
+use lib.ListN.{length, length-append, length-map}
 use Rattle.laws.specs.Lists.{filter, list_all, list_any, count, find, change, is_some}
 
 -- ---- Bool
@@ -334,9 +334,3 @@ module _ {A : Type 0} (p : A → Bool) where
         | true ↦ λ e. omega (arith, length_keep (λ a. not (p a)) l)
         | false ↦ λ e. let i = keep_fewer l e in omega arith
       ]) h
-
--- the first n
-pub all_take : {A : Type 0} (p : A → Bool) (n : ℕ) (l : List A) → list_all p l ≡ true → list_all p (take n l) ≡ true
-all_take p zero l h = refl
-all_take p (suc n) [] h = refl
-all_take p (suc n) (a ∷ l) h = and_true (p a) _ (and_left (p a) _ h) (all_take p n l (and_right (p a) _ h))

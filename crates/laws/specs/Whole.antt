@@ -1,5 +1,5 @@
 -- Whole numbers.
-use Rattle.std.specs.Prelude.{Bool, true, false, ℤ, pos, negsuc, eqb}
+use Rattle.std.specs.Prelude.{Bool, false, ℤ, pos, negsuc, eqb}
 
 -- two whole numbers are the same
 abbrev pub eq_z : ℤ → ℤ → Bool

@@ -1,1 +1,1 @@
-// Laws of lists, tables in words, bytes and whole numbers, and what a call answers: definitions and proofs that the crates share. No code.
+// Laws of lists, bytes and whole numbers, and what a call answers: definitions and proofs that the crates share. No code.

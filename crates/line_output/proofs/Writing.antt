@@ -8,11 +8,6 @@ use Rattle.line_output.specs.declared.Output.{Output}
 use Rattle.line_output.specs.Output.{pending, Passes, Written}
 
 -- ---- known bytes
-
-pub added_none : (a : Option (List ℕ)) → Appends a a []
-added_none None = tt
-added_none (Some x) = sym (append-nil x)
-
 pub added_on : (a b c : Option (List ℕ)) (xs ys : List ℕ) → Appends a b xs → Appends b c ys → Appends a c (xs ++ ys)
 added_on None b c xs ys p q = tt
 added_on (Some x) None c xs ys p q = absurd p

@@ -1,8 +1,8 @@
 -- What an end that joins leaves.
 use Rattle.std.specs.Prelude.{ℕ, ◌+◌, ◌≤◌, suc, true, false, not, ◌&&◌, leb, List, length, ◌≡◌}
-use Rattle.std.proofs.Common.{refl, arith, length-append}
+use Rattle.std.proofs.Common.{refl, arith}
 use borrow.Author.Tests.{leb-false}
-use Rattle.laws.specs.Lists.{filter, list_any}
+use Rattle.laws.specs.Lists.{filter, list_any, find}
 use Rattle.laws.proofs.Lists.{keep_fewer, length_keep}
 use Rattle.rules.specs.declared.entry.Entry.{Entry}
 use Rattle.rules.specs.declared.state.Group.{Group}
@@ -11,7 +11,8 @@ use Rattle.rules.specs.declared.call.Offer.{Offer}
 use Rattle.rules.specs.declared.call.Fate.{Fate}
 use Rattle.rules.specs.declared.call.Fate.TheVariants.{Stored, Joined, Late}
 use Rattle.rules.specs.State.{State, stored}
-use Rattle.rules.specs.Offer.{replaced, join, keep_end, adds, with_marks}
+use Rattle.rules.specs.Offer.{replaced, join, mark_of, adds, with_marks}
+use Rattle.sets.proofs.Keeping.{length-keep_end}
 
 -- of p entries and those of the list an end that joins makes 256 at most, where it adds to fewer
 pub room_to_join : (e : Entry ℕ) (l : List (Entry ℕ)) (p : ℕ) → p + length l ≤ 256 → not (list_any (λ h. replaced e h) l) && leb 256 (p + length l) ≡ false → p + suc (length (filter (λ h. not (replaced e h)) l)) ≤ 256
@@ -22,8 +23,8 @@ room_to_join e l p h k =
     ]) refl k
 
 pub length-join : (e : Entry ℕ) (l : List (Entry ℕ)) → length (join e l) ≡ suc (length (filter (λ h. not (replaced e h)) l))
-unfolding join keep_end
-length-join e l = omega (arith, length-append (filter (λ h. not (replaced e h)) l))
+unfolding join
+length-join e l = length-keep_end (mark_of (find (λ h. replaced e h) l)) e l
 
 -- marks take no room
 pub same_room : (f : Fate) (gs : List Group) (ws : List Writer) (s : State ℕ) (o : Offer ℕ) → adds f (with_marks gs ws s) o && leb 256 (stored (with_marks gs ws s)) ≡ adds f s o && leb 256 (stored s)

@@ -1,6 +1,6 @@
 -- Refusals asked one after another.
 use Rattle.std.specs.Prelude.{ℕ, Bool, true, false, cond, List, [], ◌∷◌, ◌++◌, ◌≡◌, Option, Some, None}
-use Rattle.std.proofs.Common.{refl, sym, ap}
+use Rattle.std.proofs.Common.{refl, sym, ap, ◌∙◌}
 use Prim.{Unit, tt}
 use Rattle.laws.specs.Answer.{Answer, refused, answered}
 use Rattle.rules.specs.State.{State}
@@ -28,5 +28,5 @@ refused_none n false l e = (refl, e)
 pub is_refused : (r : Option ℕ) (n : ℕ) (s t : State ℕ) → r ≡ Some n → ◌≡◌ {A = Answer (Unit {0}) × State ℕ} (refused n, s) (done r s t)
 is_refused r n s t e = sym (ap (λ r. done r s t) e)
 
-pub is_done : (r : Option ℕ) (s t : State ℕ) → r ≡ None → ◌≡◌ {A = Answer (Unit {0}) × State ℕ} (answered tt, t) (done r s t)
-is_done r s t e = sym (ap (λ r. done r s t) e)
+pub is_done : (r : Option ℕ) (s t u : State ℕ) → r ≡ None → u ≡ t → ◌≡◌ {A = Answer (Unit {0}) × State ℕ} (answered tt, u) (done r s t)
+is_done r s t u e h = ap (λ v. (answered tt, v)) h ∙ sym (ap (λ r. done r s t) e)

@@ -5,8 +5,9 @@ ghost use Rattle.refusals.specs.Refusal.{answer_as};
 ghost use Rattle.rules.specs.Offer.{gap};
 ghost use Rattle.store.specs.Store.{state_of};
 
-use crate::admit::{admit_reader, admit_writer};
+use crate::admit::admit_reader;
 use crate::hear::hear;
+use crate::sender::Sender;
 use refusals::Refusal;
 use rules::call::Gap;
 use rules::number::clamp;
@@ -19,9 +20,8 @@ pub fn gap(store: &mut Store, x: Gap) -> Result<(), Refusal>
     ensures kept { Kept (answer_as result) store.old store.new }
 {
     admit_reader(x.reader)?;
-    admit_writer(store, x.group, x.writer)?;
-    hear(store, x.group, x.writer, |w| {
-        w.gapped(x.reader, clamp(x.number))
-    });
+    let sender = Sender::of(store, x.group, x.writer);
+    sender.admit(store)?;
+    hear(store, sender, |w| w.raise_gap(x.reader, clamp(x.number)));
     Ok(())
 }

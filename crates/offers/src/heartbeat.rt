@@ -5,8 +5,8 @@ ghost use Rattle.refusals.specs.Refusal.{answer_as};
 ghost use Rattle.rules.specs.Offer.{heartbeat};
 ghost use Rattle.store.specs.Store.{state_of};
 
-use crate::admit::admit_writer;
 use crate::hear::{announce, hear};
+use crate::sender::Sender;
 use refusals::Refusal;
 use rules::call::Heartbeat;
 use rules::number::clamp;
@@ -18,11 +18,12 @@ pub fn heartbeat(store: &mut Store, h: Heartbeat) -> Result<(), Refusal>
     ensures is { (answer_as result, state_of store.new) ≡ heartbeat (state_of store.old) h }
     ensures kept { Kept (answer_as result) store.old store.new }
 {
-    admit_writer(store, h.group, h.writer)?;
+    let sender = Sender::of(store, h.group, h.writer);
+    sender.admit(store)?;
     let current = clamp(h.current);
-    hear(store, h.group, h.writer, |w| {
-        w.announced(clamp(h.first), clamp(h.last), current, h.digest, h.secure)
+    let group = hear(store, sender, |w| {
+        w.announce(clamp(h.first), clamp(h.last), current, h.digest, h.secure)
     });
-    announce(store, h.group, current);
+    announce(store, group, current);
     Ok(())
 }

@@ -7,3 +7,4 @@ mod hear;
 pub mod heartbeat;
 mod join;
 pub mod offer;
+mod sender;

@@ -2,14 +2,15 @@
 ghost use Rattle.std.specs.Prelude.{◌≡◌, ◌∷◌, [], ◌&&◌, leb, false};
 ghost use Rattle.laws.specs.Answer.{Kept};
 ghost use Rattle.refusals.specs.Refusal.{answer_as};
-ghost use Rattle.rules.specs.State.{stored};
+ghost use Rattle.rules.specs.State.{committed_of, stored};
 ghost use Rattle.rules.specs.Offer.{offer, entry_of, fate_of, adds, refusal, place};
 ghost use Rattle.store.specs.Store.{state_of};
 ghost use Rattle.offers.specs.Refused.{refused_by};
 
-use crate::admit::{admit_reader, admit_writer};
+use crate::admit::admit_reader;
 use crate::hear::hear;
 use crate::join::{has_end, is_open, join};
+use crate::sender::Sender;
 use refusals::Refusal;
 use rules::call::{Fate, Offer};
 use rules::entry::{Entry, What};
@@ -23,11 +24,12 @@ pub fn offer(store: &mut Store, o: Offer<u32>) -> Result<Fate, Refusal>
     ensures kept { Kept (answer_as result) store.old store.new }
 {
     admit_reader(o.reader)?;
-    admit_writer(store, o.group, o.writer)?;
-    let fate = fate_of(store, o);
+    let sender = Sender::of(store, o.group, o.writer);
+    sender.admit(store)?;
+    let fate = fate_of(store, sender.committed(store), o);
     admit_entry(store, o, fate)?;
-    hear(store, o.group, o.writer, |w| {
-        w.saw(o.reader, clamp(o.number), o.digest)
+    hear(store, sender, |w| {
+        w.see(o.reader, clamp(o.number), o.digest)
     });
     place(store, o, fate);
     Ok(fate)
@@ -62,10 +64,11 @@ fn entry_of(o: Offer<u32>) -> Entry<u32>
 
 // Above committed: stored; else an end whose set is open joins it; all else is late.
 #[tactic(auto, unfolding(rules::specs::Offer::fate_of))]
-fn fate_of(store: &Store, o: Offer<u32>) -> Fate
+fn fate_of(store: &Store, committed: u64, o: Offer<u32>) -> Fate
+    requires { committed ≡ committed_of o.group (state_of store.now).groups }
     ensures { result ≡ fate_of (state_of store.now) o }
 {
-    if store.committed_of(o.group) < clamp(o.number) {
+    if committed < clamp(o.number) {
         return Fate::Stored;
     }
     if matches!(o.what, What::End(_)) && is_open(&store.sets, &entry_of(o)) {

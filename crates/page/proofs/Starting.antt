@@ -18,14 +18,6 @@ row_is r h = ap₂ (λ p q. record { pending = p; held = q; oldest = r.oldest })
 abbrev pub first_of : {A : Type 0} → A → A → ℕ → ℕ → List A
 first_of a z k n = replicate k a ++ replicate (n - k) z
 
-pub first_more : {A : Type 0} (a z : A) (k n : ℕ) → k < n → set (first_of a z k n) k a ≡ first_of a z (k + 1) n
-first_more a z k n h =
-    let m : ℕ = n - (k + 1) in
-    let e : n - k ≡ suc m = omega arith in
-    rw e (set_at (replicate k a) z (replicate m z) a k (length-replicate k a))
-    ∙ sym (append_assoc (replicate k a) (a ∷ []) (replicate m z))
-    ∙ ap (λ x. x ++ replicate m z) (replicate-append-replicate k 1 a)
-
 rows_rep : (m : ℕ) (o : Option Row) (l : List (Option Row)) → rows_as (replicate m o ++ l) ≡ replicate m (option_map (λ y. row_as y) o) ++ rows_as l
 rows_rep zero o l = refl
 rows_rep (suc m) o l = ap (λ x. option_map (λ y. row_as y) o ∷ x) (rows_rep m o l)

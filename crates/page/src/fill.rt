@@ -3,7 +3,6 @@ ghost use Rattle.std.specs.Prelude.{◌≡◌, ◌*◌, ◌≤◌, [], ◌∷◌
 ghost use Rattle.std.specs.Option.{option_flatten};
 ghost use Rattle.refusals.specs.Refusal.{answer_as};
 ghost use Rattle.laws.specs.Lists.{index_of};
-ghost use Rattle.rules.specs.Entry.{is_sample};
 ghost use Rattle.rules.specs.State.{is_group};
 ghost use Rattle.rules.specs.Page.{row_of, start_rows, page_of};
 ghost use Rattle.store.specs.Store.{state_of};
@@ -12,7 +11,7 @@ ghost use Rattle.page.specs.Words.{listed, page_to};
 
 use crate::row::{Row, words_of};
 use refusals::Refusal;
-use rules::entry::{Entry, What};
+use rules::entry::Entry;
 use store::Store;
 
 // Eight rows for each of eight groups, in the order of the GUIDs, readers ascending.
@@ -23,9 +22,7 @@ fn start_page(store: &Store) -> Page
     ensures { rows_as result ≡ start_rows 8 (state_of store.now).groups }
 {
     let mut page = [None; 64];
-    for k in 0..8 * store.groups.len() {
-        page[k] = Some(Row::default());
-    }
+    page[..8 * store.groups.len()].fill(Some(Row::default()));
     page
 }
 
@@ -47,13 +44,6 @@ fn row_of(store: &Store, e: &Entry<u32>) -> usize
     8 * place_of(store, e.group) + usize::from(reader)
 }
 
-#[tactic(auto, unfolding(rules::specs::Entry::is_sample))]
-fn is_sample(e: &Entry<u32>) -> bool
-    ensures { result ≡ is_sample e.now }
-{
-    matches!(e.what, What::Sample(_))
-}
-
 // The row at that place; none if it is absent, or past the last.
 fn row_at(page: &Page, k: usize) -> Option<Row>
     ensures { result ≡ option_flatten (slice_get page.now k) }
@@ -66,7 +56,7 @@ fn read_entry(page: &mut Page, store: &Store, e: &Entry<u32>, pending: bool)
     requires { Few 512 (rows_as page.old) }
     ensures { ReadRows pending (state_of store.now).groups (e.now ∷ []) page.old page.new }
 {
-    if is_sample(e) {
+    if e.is_sample() {
         let k = row_of(store, e);
         if let Some(row) = row_at(page, k) {
             page[k] = Some(row.counted(pending, e.time));
@@ -99,6 +89,7 @@ fn write(page: &[Option<Row>], list: &mut [u64])
     requires { 4 * length page.now ≤ length list.old }
     ensures { list.new ≡ listed (rows_as page.now) (drop (4 * length page.now) list.old) }
 {
+    // by place: what goes through `chunks_exact_mut` is lost to the proof
     for (k, row) in page.iter().enumerate() {
         list[4 * k..4 * k + 4].copy_from_slice(&words_of(*row));
     }

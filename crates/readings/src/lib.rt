@@ -8,15 +8,8 @@ ghost use Rattle.rules.specs.Release.{samples};
 ghost use Rattle.rules.specs.Entry.{is_sample};
 ghost use Rattle.store.specs.Store.{state_of};
 
-use rules::entry::{Entry, What};
+use rules::entry::Entry;
 use store::Store;
-
-#[tactic(auto, unfolding(rules::specs::Entry::is_sample))]
-fn is_sample(e: &Entry<u32>) -> bool
-    ensures { result ≡ is_sample e.now }
-{
-    matches!(e.what, What::Sample(_))
-}
 
 // The samples of a reader among the entries.
 #[tactic(auto, unfolding(laws::specs::Lists::count))]
@@ -26,7 +19,7 @@ fn samples_for(entries: &[Entry<u32>], reader: u8) -> usize
 {
     entries
         .iter()
-        .filter(|e| is_sample(e) && reader == e.reader)
+        .filter(|e| e.is_sample() && reader == e.reader)
         .count()
 }
 
@@ -36,14 +29,14 @@ fn samples_in(entries: &[Entry<u32>]) -> usize
     ensures all { result ≡ count (λ e. is_sample e) entries.now }
     ensures few { result ≤ length entries.now }
 {
-    entries.iter().filter(|e| is_sample(e)).count()
+    entries.iter().filter(|e| e.is_sample()).count()
 }
 
 // One of the entries is a sample.
 fn has_sample(entries: &[Entry<u32>]) -> bool
     ensures { result ≡ list_any (λ e. is_sample e) entries.now }
 {
-    entries.iter().any(|e| is_sample(e))
+    entries.iter().any(|e| e.is_sample())
 }
 
 // The samples of a reader that are pending or held; 0 of a reader above 7.

@@ -9,7 +9,6 @@ ghost use Rattle.ready.specs.Places.{entries_at, copied};
 use crate::digests::digests_accepted;
 use crate::heads::Heads;
 use crate::past::{all_past, is_past};
-use guids::guid::same;
 use rules::entry::Entry;
 use rules::turn::GroupTurn;
 use rules::view::Pair;
@@ -50,10 +49,8 @@ pub fn copies_arrived(
 ) -> bool
     ensures { result ≡ copies_arrived (turn_as turn.now) number (entries_at pending.now heads.now) }
 {
-    let guid = turn.group.guid;
     let heads = Heads::new(pending, heads);
     turn.counted
         .iter()
-        .filter(|p| same(guid, p.group))
         .all(|p| is_copied(turn, number, &heads, p))
 }

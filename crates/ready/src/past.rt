@@ -6,7 +6,6 @@ ghost use Rattle.rules.specs.State.{writer_of};
 ghost use Rattle.rules.specs.Commit.{pair_past, all_from};
 ghost use Rattle.rules.specs.GroupTurn.{turn_as};
 
-use guids::guid::same;
 use rules::number::Marks;
 use rules::state::Writer;
 use rules::turn::GroupTurn;
@@ -65,10 +64,8 @@ fn is_past_all(turn: &GroupTurn<'_>, p: &Pair, from: u64, end: u64) -> bool
 pub(crate) fn all_past(turn: &GroupTurn<'_>, committed: u64, number: u64) -> bool
     ensures { result ≡ all_from (suc committed) (number - suc committed) (λ n. list_all (λ p. pair_past (turn_as turn.now) p.writer p.reader n) (turn_as turn.now).counted) }
 {
-    let guid = turn.group.guid;
     let from = committed.saturating_add(1);
     turn.counted
         .iter()
-        .filter(|p| same(guid, p.group))
         .all(|p| is_past_all(turn, p, from, number))
 }

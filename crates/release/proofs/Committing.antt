@@ -41,9 +41,6 @@ pub record Committing (g : Guid) (ps : List (Entry ℕ)) (places : List ℕ) (k 
   pub room : length t.held.items + length p ≤ length s.held.items + length o + k
   pub known : Known g m t.held.items
 
-pub committing_none : (g : Guid) (ps : List (Entry ℕ)) (places : List ℕ) (s : Sets) (o : List ℕ) (m : Memory) → list_all (λ e. of_group g e) (entries_at ps places) ≡ true → Known g m s.held.items → Committing g ps places 0 s o s o m
-committing_none g ps places s o m h k = record { goes = λ w c. (w, c, refl); group = h; room = omega arith; known = k }
-
 module _ (g : Guid) (ps : List (Entry ℕ)) (places : List ℕ) (k : ℕ) (s : Sets) (o : List ℕ) (t : Sets) (p : List ℕ) (m : Memory) (c : Committing g ps places k s o t p m) where
   pub committing_all : length places ≤ k → Goes (λ w. commit_all (entries_at ps places) w) s o t p
   unfolding commit_all

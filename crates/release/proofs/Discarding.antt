@@ -41,9 +41,6 @@ pub record Discarding (e : Entry ℕ) (n k : ℕ) (s t : Sets) : Type 0 where
   pub fewer : length t.held.items ≤ length s.held.items
   pub goes : (o : List ℕ) (w : Work ℕ) → Carries s o w → (v : Work ℕ) × Carries t o v × (discard_stale n e w ≡ discard_stale k e v)
 
-pub discarding_none : (e : Entry ℕ) (n : ℕ) (s : Sets) → Discarding e n n s s
-discarding_none e n s = record { fewer = omega arith; goes = λ o w x. (w, x, refl) }
-
 module _ (e : Entry ℕ) (n : ℕ) (s t : Sets) where
   pub discarding_more : (k j : ℕ) (z y : ℤ) (u : Sets) → Discarding e n k s t → k ≡ j + 1 → lowest_stale e t.held.items ≡ Some y → y ≡ z
       → u.held.items ≡ without e.group z t.held.items → u.counts ≡ discards (length (members_of e.group z t.held.items)) t.counts → Discarding e n j s u

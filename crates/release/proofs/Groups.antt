@@ -7,13 +7,17 @@ use Rattle.std.specs.Prelude.{Option, Some, unwrap_or, slice_set}
 use native.Mathlib.Omega.{arith}
 use lib.Dec.{leb, ltb}
 use lib.ListN.{length, get_or, take, drop}
-use borrow.Author.Tests.{leb-true, leb-false, lt-ltb, le-ltb}
+use borrow.Author.Tests.{leb-true, leb-false, lt-ltb, le-ltb, ltb-false}
 use Rattle.std.proofs.Common.{take_all, drop_of_length-le}
 use Rattle.std.proofs.lemmas.List.{get_or_default, take_more, length-take-le, length-append, length-drop}
 use Rattle.std.proofs.Math.Seq.{drop-cons, get_or_at, set_at}
 use Rattle.laws.specs.Answer.{answered}
 use Rattle.laws.specs.Lists.{filter, count}
-use Rattle.guids.specs.Guid.{Guid}
+use Rattle.guids.specs.Guid.{Guid, same_guid}
+use Rattle.rules.specs.declared.view.Pair.{Pair}
+use Rattle.rules.specs.declared.view.DigestRow.{DigestRow}
+use Rattle.rules.proofs.SameRows.{with_counted, rounds_same}
+use Rattle.release.specs.Rows.{SameRows}
 use Rattle.rules.specs.Entry.{of_group, is_sample}
 use Rattle.rules.specs.Offer.{refusal}
 use Rattle.rules.specs.Run.{place_of}
@@ -48,22 +52,31 @@ module _ (t : GroupTurn) (i : ℕ) (d : Group) (s u : Store) (o p : List ℕ) (r
         groups = h ∙ ap (λ n. slice_set s.groups.items i (committed_at n t.group)) (sym e.committed);
       }
 
-  turn_is : t.writers.now ≡ s.writers.items → t.timeout ≡ s.timeout → turn_as t ≡ turn_in (view_of t.counted.now t.digests.now) t.time s t.group
-  unfolding turn_of
-  turn_is a b = ap (λ ws. turn_of (view_of t.counted.now t.digests.now) t.time t.timeout ws t.group) a ∙ ap (λ k. turn_of (view_of t.counted.now t.digests.now) t.time k s.writers.items t.group) b
+  module _ (cs : List Pair) (same_rows : SameRows (filter (λ q. same_guid t.group.guid q.group) cs) t.counted.now) where
+    turn_is : t.writers.now ≡ s.writers.items → t.timeout ≡ s.timeout
+        → with_counted (filter (λ q. same_guid t.group.guid q.group) cs) (turn_as t) ≡ turn_in (view_of cs t.digests.now) t.time s t.group
+    unfolding turn_of with_counted
+    turn_is a b = ap (λ ws. turn_of (view_of cs t.digests.now) t.time t.timeout ws t.group) a ∙ ap (λ k. turn_of (view_of cs t.digests.now) t.time k s.writers.items t.group) b
 
-  pub stepped : i < length s.groups.items → t.group ≡ get_or s.groups.items i d → t.writers.now ≡ s.writers.items → t.timeout ≡ s.timeout
-      → GroupReleased t s.pending.items s.sets o r u.sets p → u.pending.items ≡ left t.group.guid r s.pending.items
-      → u.groups.items ≡ slice_set s.groups.items i (committed_at (unwrap_or r t.group.committed) t.group) → u.writers.items ≡ s.writers.items → u.timeout ≡ s.timeout
-      → Steps (view_of t.counted.now t.digests.now) t.time i s o u p
-  stepped l g ws k f q h a b = record {
-    step = λ y e w x.
-        let same : t.group ≡ y = g ∙ get_or_default s.groups.items i d y l ∙ e in
-        subst (λ z. GroupStep i s u p z (release_group (turn_in (view_of t.counted.now t.digests.now) t.time s z) z w)) same
-        (subst (λ T. GroupStep i s u p t.group (release_group T t.group w)) (turn_is ws k) (group_step f q h w x));
-    writers = a;
-    timeout = b;
-  }
+    -- rows that stand several times change nothing
+    alike : t.writers.now ≡ s.writers.items → t.timeout ≡ s.timeout → (w : Work ℕ) → release_group (turn_as t) t.group w ≡ release_group (turn_in (view_of cs t.digests.now) t.time s t.group) t.group w
+    unfolding release_group with_counted enough at_group
+    alike a b w =
+        sym (rounds_same _ t.counted.now same_rows (enough (at_group t.group w)) (turn_as t) (at_group t.group w))
+        ∙ ap (λ T. release_group T t.group w) (turn_is a b)
+
+    pub stepped : i < length s.groups.items → t.group ≡ get_or s.groups.items i d → t.writers.now ≡ s.writers.items → t.timeout ≡ s.timeout
+        → GroupReleased t s.pending.items s.sets o r u.sets p → u.pending.items ≡ left t.group.guid r s.pending.items
+        → u.groups.items ≡ slice_set s.groups.items i (committed_at (unwrap_or r t.group.committed) t.group) → u.writers.items ≡ s.writers.items → u.timeout ≡ s.timeout
+        → Steps (view_of cs t.digests.now) t.time i s o u p
+    stepped l g ws k f q h a b = record {
+      step = λ y e w x.
+          let same : t.group ≡ y = g ∙ get_or_default s.groups.items i d y l ∙ e in
+          subst (λ z. GroupStep i s u p z (release_group (turn_in (view_of cs t.digests.now) t.time s z) z w)) same
+          (subst (λ v. GroupStep i s u p t.group v) (alike ws k w) (group_step f q h w x));
+      writers = a;
+      timeout = b;
+    }
 
 up_to : (o : Bool) (n k : ℕ) → not o || ltb n k ≡ not (o && leb k n)
 up_to false n k = refl
@@ -180,3 +193,12 @@ module _ (v : View) (now : ℕ) (s : Store) where
     answers l m k =
         let n : length p ≡ length done.1.out = ap length places_are ∙ placed done.1.out in
         rw (m, le-ltb (length l) (samples (state_of s)) k) (ap (λ a. (answered a, state_of u, p ++ drop a l)) n ∙ ap (λ a. (answered (length done.1.out), a, p ++ drop (length done.1.out) l)) state_left ∙ ap (λ a. (answered (length done.1.out), back_to (state_of s) done, a ++ drop (length done.1.out) l)) places_are)
+
+neither : (a b : Bool) → a || b ≡ false → a ≡ false
+neither true b e = e
+neither false b e = refl
+
+-- rows that are not malformed are at most 256
+pub few_counted : (ps : List Pair) (ds : List DigestRow) → malformed (view_of ps ds) ≡ false → length ps ≤ 256
+unfolding malformed
+few_counted ps ds e = ltb-false 256 (length ps) (neither _ _ (neither _ _ (neither _ _ e)))

@@ -70,10 +70,6 @@ not_not : (b : Bool) → not b ≡ true → b ≡ false
 not_not true e = sym e
 not_not false e = refl
 
-or_none : (b : Bool) → b || false ≡ b
-or_none true = refl
-or_none false = refl
-
 last_false : (a b c : Bool) → c ≡ false → a && b && c ≡ false
 last_false true true c e = e
 last_false true false c e = refl
@@ -180,9 +176,6 @@ any_clean g l x e p =
 -- none but the entry's own is
 pub clean_none : (e : Entry ℕ) (m : Memory) (l : List (Entry ℕ)) → Known e.group m l → m.clean ≡ true → m.own ≡ None → lowest_stale e l ≡ None
 clean_none e m l k c n = any_clean e.group l (λ x p q. k.stale c x p (q ∙ sym n)) e refl
-
-pub clean_own : (e : Entry ℕ) (m : Memory) (l : List (Entry ℕ)) → Known e.group m l → m.clean ≡ true → m.own ≡ e.set → lowest_stale e l ≡ None
-clean_own e m l k c n = k.stale c e refl (sym n)
 
 module _ (e : Entry ℕ) where
   -- one more in its own set

@@ -5,6 +5,7 @@ pub mod Knowing
 pub mod Committing
 pub mod Sorted
 pub mod Heads
+pub mod OwnRows
 pub mod Repeats
 pub mod Finishing
 pub mod Heading

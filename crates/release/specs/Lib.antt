@@ -5,3 +5,4 @@ pub mod Released
 pub mod GroupReleased
 pub mod Progress
 pub mod GroupSteps
+pub mod Rows

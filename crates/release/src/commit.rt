@@ -2,7 +2,7 @@
 ghost use Rattle.std.specs.Prelude.{◌≡◌, ◌+◌, ◌<◌, ◌≤◌, ◌&&◌, ℕ, List, true, None, length};
 ghost use Rattle.laws.specs.Lists.{list_all, find};
 ghost use Rattle.rules.specs.Entry.{of_group, marks};
-ghost use Rattle.rules.specs.Offer.{shares, replaced, keep_end};
+ghost use Rattle.rules.specs.Offer.{shares, keep_end};
 ghost use Rattle.rules.specs.Sets.{lowest_stale};
 ghost use Rattle.rules.specs.Release.{Work, mark_or, settle, commit_one, commit_all};
 ghost use Rattle.sets.specs.Works.{Goes};
@@ -11,11 +11,10 @@ ghost use Rattle.ready.specs.Places.{entries_at};
 ghost use Rattle.release.specs.Order.{AllBelow};
 ghost use Rattle.arrayvec.specs.ArrayVec.{array_vec_len};
 
-use crate::stale::{discard_stale, shares};
+use crate::stale::discard_stale;
 use arrayvec::ArrayVec;
-use guids::guid::same;
 use rules::entry::{Entry, What};
-use sets::{Sets, place_of};
+use sets::{Sets, place_of, shares};
 
 // What is remembered of the group's held entries: no set is ended; no set but `own` is open and not ended.
 #[derive(Clone, Copy, PartialEq, Eq, Debug, Default)]
@@ -52,17 +51,6 @@ impl Memory {
     }
 }
 
-// h is the kept end of e's pair in e's set.
-#[tactic(auto, unfolding(rules::specs::Offer::replaced, rules::specs::Entry::is_sample, rules::specs::Entry::of_pair))]
-fn is_replaced(e: &Entry<u32>, h: &Entry<u32>) -> bool
-    ensures { result ≡ replaced e.now h.now }
-{
-    matches!(h.what, What::End(_))
-        && e.reader == h.reader
-        && same(e.writer, h.writer)
-        && shares(e, h)
-}
-
 // The offer time of its set's first committed end: e's own, if none marks the set.
 #[tactic(auto, unfolding(rules::specs::Entry::marks, laws::specs::Lists::is_some))]
 fn mark(held: &[Entry<u32>], e: &Entry<u32>) -> Option<u64>
@@ -73,7 +61,6 @@ fn mark(held: &[Entry<u32>], e: &Entry<u32>) -> Option<u64>
 }
 
 // An end is kept in place of its pair's earlier one, and marks its set ended.
-#[tactic(auto, unfolding(rules::specs::Offer::keep_end, rules::specs::Offer::marked))]
 fn keep_end(sets: &mut Sets, e: Entry<u32>)
     requires { array_vec_len sets.old.held < 256 }
     ensures held { sets.new.held.items ≡ keep_end (mark_or e.time (find (λ m. shares e m && marks m) sets.old.held.items)) e sets.old.held.items }
@@ -81,8 +68,7 @@ fn keep_end(sets: &mut Sets, e: Entry<u32>)
     ensures room { array_vec_len sets.new.held ≤ array_vec_len sets.old.held + 1 }
 {
     let ended = mark(sets.held.as_slice(), &e);
-    sets.held.retain(|h| !is_replaced(&e, h));
-    sets.held.push(Entry { ended, ..e });
+    sets.keep_end(e, ended);
 }
 
 // A member joins its set; an end is kept in place of its pair's earlier one and marks its set ended; a plain sample is handed out; an end

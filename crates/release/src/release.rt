@@ -1,5 +1,5 @@
 // Release, on lists of counted rows and digest rows.
-ghost use Rattle.std.specs.Prelude.{◌≡◌, ◌+◌, ◌<◌, ◌≤◌, ◌&&◌, not, ltb, eqb};
+ghost use Rattle.std.specs.Prelude.{◌≡◌, ◌+◌, ◌<◌, ◌≤◌, ◌&&◌, not, ltb, eqb, length};
 ghost use Rattle.arrayvec.specs.ArrayVec.{array_vec_len};
 ghost use Rattle.laws.specs.Answer.{Kept};
 ghost use Rattle.laws.specs.Lists.{list_any};
@@ -11,6 +11,7 @@ ghost use Rattle.release.specs.Released.{release_to, view_of};
 ghost use Rattle.release.specs.GroupSteps.{Steps};
 
 use crate::group::release_group;
+use crate::rows::rows_of;
 use arrayvec::ArrayVec;
 use guids::guid::same;
 use readings::sample_count;
@@ -73,6 +74,7 @@ pub fn release(
         return Err(Refusal::ListTooShort);
     }
     let mut handed = ArrayVec::new();
+    // by place, since each group's release changes the store
     for i in 0..store.groups.len() {
         release_at(store, i, counted, digests, time, &mut handed);
     }
@@ -91,15 +93,17 @@ fn release_at(
     out: &mut ArrayVec<u64, 256>,
 )
     requires within { i < array_vec_len store.old.groups }
+    requires counted { length counted.now ≤ 256 }
     requires room { array_vec_len store.old.sets.held + array_vec_len out.old + array_vec_len store.old.pending ≤ 256 }
     ensures steps { Steps (view_of counted.now digests.now) time i store.old out.old.items store.new out.new.items }
     ensures room { array_vec_len store.new.sets.held + array_vec_len out.new + array_vec_len store.new.pending ≤ array_vec_len store.old.sets.held + array_vec_len out.old + array_vec_len store.old.pending }
 {
     let group = store.groups.as_slice()[i];
+    let rows = rows_of(counted, group.guid);
     let turn = GroupTurn {
         group,
         writers: store.writers.as_slice(),
-        counted,
+        counted: rows.as_slice(),
         digests,
         time,
         timeout: store.timeout,

@@ -10,21 +10,13 @@ ghost use Rattle.arrayvec.specs.ArrayVec.{array_vec_len};
 
 use guids::guid::same;
 use rules::entry::Entry;
-use sets::{Sets, lesser};
+use sets::{Sets, lesser, shares};
 
 // Both have a set number, and the same one.
 fn is_same_set(e: &Entry<u32>, h: &Entry<u32>) -> bool
     ensures { result ≡ same_set e.now.set h.now.set }
 {
     e.set.is_some() && e.set == h.set
-}
-
-// h is of e's set.
-#[tactic(auto, unfolding(rules::specs::Offer::shares, rules::specs::Entry::of_group))]
-pub(crate) fn shares(e: &Entry<u32>, h: &Entry<u32>) -> bool
-    ensures { result ≡ shares e.now h.now }
-{
-    same(e.group, h.group) && is_same_set(e, h)
 }
 
 // An entry marks h's set ended.

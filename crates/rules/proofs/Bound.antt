@@ -12,7 +12,7 @@ use borrow.Author.Tests.{not-true, leb-true, ltb-true, lt-ltb, le-ltb, eq-eqb, e
 use Rattle.laws.specs.Answer.{answered}
 use Rattle.laws.specs.Lists.{filter, list_all, count, find, nth}
 use Rattle.guids.specs.Guid.{Guid, same_guid}
-use Rattle.rules.specs.Entry.{What, Sample, End, set_end, Entry, is_sample, of_group}
+use Rattle.rules.specs.Entry.{What, Sample, End, Entry, is_sample, of_group}
 use Rattle.rules.specs.State.{State, fresh, is_writer, knows_group, knows_writer, committed_of, Writer}
 use Rattle.rules.specs.Marks.{number}
 use Rattle.rules.specs.Offer.{Offer, Fate, Stored, Joined, Late, refusal, ninth, pair33, with_marks, entry_of, replaced, marked, mark_of, keep_end, join, fate_of, offer_refusal, place, heard_offer, offered, offer, done, heartbeat, gap}

@@ -10,7 +10,7 @@ use lib.IntN.{ℤ}
 use lib.ListN.{length, length-append}
 use Rattle.laws.specs.Lists.{filter, list_all, count, find}
 use Rattle.guids.specs.Guid.{Guid}
-use Rattle.rules.specs.Entry.{What, Sample, End, set_end, Entry, is_sample_w, is_sample, in_set, is_member, of_pair, marks}
+use Rattle.rules.specs.Entry.{What, Sample, End, Entry, is_sample_w, is_sample, in_set, is_member, of_pair, marks}
 use Rattle.rules.specs.State.{State, plus}
 use Rattle.rules.specs.Offer.{shares, replaced, marked, keep_end}
 use Rattle.rules.specs.Sets.{members_of, without}

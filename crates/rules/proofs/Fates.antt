@@ -10,7 +10,7 @@ use lib.ListN.{length, length-append}
 use borrow.Author.Tests.{eq-eqb, ne_eqb}
 use Rattle.laws.specs.Answer.{answered}
 use Rattle.laws.specs.Lists.{list_all, list_any, count, find}
-use Rattle.rules.specs.Entry.{What, Sample, End, set_end, Entry, is_sample_w, is_sample}
+use Rattle.rules.specs.Entry.{What, Sample, End, Entry, is_sample_w, is_sample}
 use Rattle.rules.specs.State.{State, fresh, no_counts, committed_of}
 use Rattle.rules.specs.Marks.{number}
 use Rattle.rules.specs.Offer.{Offer, Fate, Stored, Joined, Late, fate, one_late, with_marks, entry_of, shares, replaced, join, mark_of, fate_of, offer_refusal, place, heard_offer, offered, offer}

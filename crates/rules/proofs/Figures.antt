@@ -7,7 +7,7 @@ use mathlib.Core.List.{List, [], ◌∷◌, ◌++◌, map}
 use Rattle.std.specs.Prelude.{Option, Some, None}
 use lib.IntN.{ℤ, pos}
 use lib.ListN.{length, replicate}
-use Rattle.laws.specs.Lists.{filter, list_all, list_any, count, find, change, is_some}
+use Rattle.laws.specs.Lists.{count, change, is_some}
 use Rattle.guids.specs.Guid.{Guid, compare_guid, same_guid, before}
 use Rattle.rules.specs.Entry.{What, Sample, End, set_end, Entry, is_sample, of_group, in_set, of_pair, is_member, is_end_of, marks}
 use Rattle.rules.specs.State.{State, Writer, ReleaseCounts, plus, no_counts, fresh, is_group, is_writer, knows_group, knows_writer, writer_of, committed_in, committed_of, stored, new_group, new_writer}

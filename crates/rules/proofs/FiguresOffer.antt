@@ -7,7 +7,7 @@ use Rattle.std.specs.Prelude.{Option, Some, None}
 use lib.IntN.{ℤ, pos}
 use lib.ListN.{replicate}
 use Rattle.laws.specs.Answer.{refused, answered}
-use Rattle.rules.specs.Entry.{Sample, End, set_end, Entry}
+use Rattle.rules.specs.Entry.{Sample, set_end, Entry}
 use Rattle.rules.specs.State.{State, Writer, fresh, plus, no_counts, new_group, new_writer, writer_of}
 use Rattle.rules.specs.Offer.{Offer, Heartbeat, Gap, offer_refusal, heartbeat, gap}
 use Rattle.rules.specs.Run.{step, run, is_refused}

@@ -4,7 +4,7 @@ use mathlib.Core.Path.{◌≡◌, refl}
 use mathlib.Core.List.{List, [], ◌∷◌}
 use Rattle.std.specs.Prelude.{Option, Some, None}
 use lib.IntN.{pos, negsuc}
-use Rattle.rules.specs.Entry.{End, set_end, Entry}
+use Rattle.rules.specs.Entry.{set_end, Entry}
 use Rattle.rules.specs.State.{fresh}
 use Rattle.rules.specs.Run.{Call, run}
 use Rattle.rules.proofs.Figures.{guid, S, E, R, C, view, nobody, alone, both, stored', joined', late', out', prints}

@@ -9,7 +9,7 @@ use lib.IntN.{ℤ}
 use borrow.Author.Tests.{not-true}
 use Rattle.laws.specs.Lists.{filter, list_all, count, find}
 use Rattle.guids.specs.Guid.{Guid, same_guid}
-use Rattle.rules.specs.Entry.{What, Sample, End, set_end, Entry, is_sample, of_group, in_set, marks}
+use Rattle.rules.specs.Entry.{What, Sample, End, Entry, is_sample, of_group, in_set, marks}
 use Rattle.rules.specs.State.{Group, is_group}
 use Rattle.rules.specs.Offer.{shares, replaced, marked, keep_end}
 use Rattle.rules.specs.Sets.{without}

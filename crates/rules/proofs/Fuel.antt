@@ -9,7 +9,7 @@ use lib.IntN.{ℤ}
 use lib.ListN.{length, length-append}
 use Rattle.laws.specs.Lists.{filter, list_any, count, find}
 use Rattle.guids.specs.Guid.{Guid}
-use Rattle.rules.specs.Entry.{What, Sample, End, set_end, Entry, in_set, marks}
+use Rattle.rules.specs.Entry.{What, Sample, End, Entry, in_set, marks}
 use Rattle.rules.specs.Offer.{shares, replaced, marked, keep_end}
 use Rattle.rules.specs.Sets.{lowest_set, lowest_ended, whole, without, is_stale, lowest_stale}
 use Rattle.rules.specs.Commit.{Turn, is_head, head_of, next}
@@ -48,9 +48,6 @@ module _ {X : Type 0} where
   stale_same e zero (suc n) w h k = rw (none_stale e w.held h)
   stale_same e (suc m) zero w h k = rw (none_stale e w.held k)
   stale_same e (suc m) (suc n) w h k = (elim (lowest_stale e w.held) as (λ o. lowest_stale e w.held ≡ o → discard_or (λ v. discard_stale m e v) e.group w o ≡ discard_or (λ v. discard_stale n e v) e.group w o) [ None ↦ λ d. refl | Some z ↦ λ d. stale_same e m n (discard e.group z w) (omega (arith, stale_shorter e w z d)) (omega (arith, stale_shorter e w z d)) ]) refl
-
-  pub stale_more : (e : Entry X) (w : Work X) (k : ℕ) → length w.held ≤ k → discard_stale k e w ≡ discard_stale (length w.held) e w
-  stale_more e w k h = stale_same e k (length w.held) w h (omega arith)
 
   -- ---- commits
 

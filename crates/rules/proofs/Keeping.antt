@@ -11,7 +11,7 @@ use lib.ListN.{length}
 use borrow.Author.Tests.{ltb-true, leb-true, lt-ltb, le-leb, eqb-true, eqb-false, not-true}
 use Rattle.laws.specs.Lists.{filter, list_all, count, find}
 use Rattle.guids.specs.Guid.{Guid, same_guid, before}
-use Rattle.rules.specs.Entry.{What, Sample, End, set_end, Entry, of_group, in_set, marks}
+use Rattle.rules.specs.Entry.{What, Sample, End, Entry, of_group, in_set, marks}
 use Rattle.rules.specs.State.{Group}
 use Rattle.rules.specs.Offer.{shares, replaced, marked, keep_end, mark_of, join}
 use Rattle.rules.specs.Sets.{without}

@@ -1,4 +1,3 @@
-pub mod Whole
 pub mod Open
 pub mod Minima
 pub mod Turns
@@ -11,6 +10,7 @@ pub mod Names
 pub mod NamesOffer
 pub mod NamesRelease
 pub mod NamesRun
+pub mod SameRows
 pub mod Stays
 pub mod Conserve
 pub mod Fates

@@ -6,7 +6,7 @@ use mathlib.Core.List.{List, [], ◌∷◌, map, map-append}
 use Rattle.std.specs.Prelude.{Option, Some, None}
 use lib.IntN.{ℤ}
 use Rattle.guids.specs.Guid.{Guid}
-use Rattle.rules.specs.Entry.{What, Sample, End, set_end, Entry, is_sample_w, is_sample, of_group, in_set, of_pair, is_member, is_end_of, marks}
+use Rattle.rules.specs.Entry.{What, Sample, End, Entry, is_sample_w, is_sample, of_group, in_set, of_pair, is_member, is_end_of, marks}
 use Rattle.rules.specs.Offer.{shares, replaced, marked, keep_end}
 use Rattle.rules.specs.Sets.{Pair, lesser, lowest_set, lowest_ended, end_missing, members_of, members_of_pair, agrees_w, agrees_e, agrees, whole, without, is_stale, lowest_stale}
 use Rattle.rules.specs.Commit.{Turn, least, is_head, head_of, lowest_number, next, copies_arrived, ready}

@@ -8,7 +8,7 @@ use lib.IntN.{ℤ}
 use lib.ListN.{length-map}
 use Rattle.laws.specs.Answer.{Answer, refused, answered}
 use Rattle.guids.specs.Guid.{Guid}
-use Rattle.rules.specs.Entry.{What, Sample, End, set_end, Entry}
+use Rattle.rules.specs.Entry.{What, Sample, End, Entry}
 use Rattle.rules.specs.State.{State, Group}
 use Rattle.rules.specs.Commit.{Turn}
 use Rattle.rules.specs.Release.{Work, discard, hand_out, finish_if, finish, discard_or, discard_stale, with_held, with_out, mark_or, settle, commit_one, commit_all, commit, commit_if, head_step, finish_or, waits, end_step, round, or_stop, rounds, enough, Outcome, View, at_group, release_group, release_all, work_of, back_to, released, samples, release_refusal, released_if, release}

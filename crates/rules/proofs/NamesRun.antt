@@ -4,7 +4,7 @@ use mathlib.Core.Path.{◌≡◌, refl, sym, ap, ◌∙◌}
 use mathlib.Core.List.{List, [], ◌∷◌, map}
 use Prim.{Unit}
 use Rattle.laws.specs.Answer.{Answer, refused, answered}
-use Rattle.rules.specs.Entry.{What, Sample, End, set_end}
+use Rattle.rules.specs.Entry.{What, Sample, End}
 use Rattle.rules.specs.State.{State, fresh}
 use Rattle.rules.specs.Offer.{Fate}
 use Rattle.rules.specs.Release.{Outcome}

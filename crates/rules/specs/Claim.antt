@@ -5,7 +5,7 @@ use Rattle.std.specs.Prelude.{Option, Some, None}
 use Rattle.laws.specs.Answer.{Answer, refused, answered}
 use Rattle.laws.specs.Lists.{list_all, list_any, count, nth}
 use Rattle.guids.specs.Guid.{before}
-use Rattle.rules.specs.Entry.{What, Sample, End, set_end, Entry, is_sample_w, is_sample, of_group, is_member}
+use Rattle.rules.specs.Entry.{What, Sample, End, Entry, is_sample_w, is_sample, of_group, is_member}
 use Rattle.rules.specs.State.{State, Group, Writer, fresh, is_writer, knows_group, knows_writer, committed_of, stored}
 use Rattle.rules.specs.Marks.{number}
 use Rattle.rules.specs.Offer.{Offer, Fate, Stored, Joined, Late, entry_of, offer}

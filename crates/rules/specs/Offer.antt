@@ -1,11 +1,11 @@
 -- Offer, heartbeat and gap.
 use Prim.{Unit, tt}
-use Rattle.std.specs.Prelude.{ℕ, Bool, true, false, ◌&&◌, not, cond, List, [], ◌∷◌, ◌++◌, ℤ, ltb, leb, length}
+use Rattle.std.specs.Prelude.{ℕ, Bool, true, false, ◌&&◌, not, cond, List, [], ◌∷◌, ◌++◌, ltb, leb, length}
 use Rattle.std.specs.Prelude.{Option, Some, None}
 use Rattle.laws.specs.Answer.{Answer, refused, answered}
 use Rattle.laws.specs.Lists.{list_any, filter, find, change}
 use Rattle.guids.specs.Guid.{Guid}
-use Rattle.rules.specs.Entry.{What, Entry, is_sample_w, is_sample, same_set, of_group, of_pair}
+use Rattle.rules.specs.Entry.{Entry, is_sample_w, is_sample, same_set, of_group, of_pair}
 use Rattle.rules.specs.State.{State, Group, Writer, ReleaseCounts, plus, is_group, knows_group, knows_writer, committed_of, stored}
 use Rattle.rules.specs.Marks.{number, hear_group, tell, saw, gapped, announced, announced_to}
 pub use Rattle.rules.specs.declared.call.Offer.{Offer}

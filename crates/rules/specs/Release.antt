@@ -4,7 +4,7 @@ use Rattle.std.specs.Prelude.{Option, Some, None}
 use Rattle.laws.specs.Answer.{Answer, refused, answered}
 use Rattle.laws.specs.Lists.{filter, list_any, count, find}
 use Rattle.guids.specs.Guid.{Guid, same_guid}
-use Rattle.rules.specs.Entry.{What, Sample, End, set_end, Entry, is_sample, is_member, marks}
+use Rattle.rules.specs.Entry.{What, Sample, End, Entry, is_sample, is_member, marks}
 use Rattle.rules.specs.State.{State, Group, Writer, ReleaseCounts, plus}
 use Rattle.rules.specs.Offer.{refusal, keep_end, shares}
 use Rattle.rules.specs.Sets.{Pair, lowest_ended, end_missing, members_of, whole, without, lowest_stale}

@@ -3,7 +3,7 @@ use Prim.{Unit}
 use Rattle.std.specs.Prelude.{ℕ, ◌+◌, ◌*◌, ◌^◌, Bool, ◌&&◌, not, cond, List, [], ◌∷◌, ◌++◌, map, ltb, eqb, length, drop}
 use Rattle.laws.specs.Answer.{Answer, refused, answered}
 use Rattle.laws.specs.Lists.{count, list_any}
-use Rattle.rules.specs.Entry.{What, Sample, End, set_end, Entry, is_sample}
+use Rattle.rules.specs.Entry.{What, Sample, End, Entry, is_sample}
 use Rattle.rules.specs.State.{State}
 use Rattle.rules.specs.Offer.{Offer, Fate, Heartbeat, Gap, offer, heartbeat, gap}
 use Rattle.rules.specs.Release.{View, Outcome, release}

@@ -5,7 +5,7 @@ use Rattle.std.specs.Int.Signed.{lt_z}
 use Rattle.laws.specs.Whole.{eq_z}
 use Rattle.laws.specs.Lists.{filter, list_all, list_any, count, find}
 use Rattle.guids.specs.Guid.{Guid}
-use Rattle.rules.specs.Entry.{What, Sample, End, set_end, Entry, of_group, in_set, is_member, is_end_of, of_pair, marks, same_set}
+use Rattle.rules.specs.Entry.{What, Sample, End, Entry, of_group, in_set, is_member, is_end_of, of_pair, marks, same_set}
 use Rattle.rules.specs.Offer.{shares}
 -- a counted row (document 01, Forms)
 pub use Rattle.rules.specs.declared.view.Pair.{Pair}

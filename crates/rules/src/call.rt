@@ -22,6 +22,7 @@ pub enum Fate {
     Late,
 }
 
+// The writer's range of group numbers, first to last, and its current one; 0 or less counts as 0.
 #[derive(Clone, Copy, PartialEq, Eq, Debug)]
 pub struct Heartbeat {
     pub group: [u8; 16],
@@ -33,6 +34,7 @@ pub struct Heartbeat {
     pub secure: Option<u32>,
 }
 
+// The group numbers up to this one don't come to the reader; 0 or less counts as 0.
 #[derive(Clone, Copy, PartialEq, Eq, Debug)]
 pub struct Gap {
     pub group: [u8; 16],

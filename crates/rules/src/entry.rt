@@ -1,4 +1,6 @@
 // What the history stores of an offer. No rule looks into what a sample carries.
+ghost use Rattle.std.specs.Prelude.{◌≡◌};
+ghost use Rattle.rules.specs.Entry.{is_sample};
 
 // The end of a coherent set: its writer's first number in the set, and its own.
 #[derive(Clone, Copy, PartialEq, Eq, Debug)]
@@ -27,7 +29,18 @@ pub struct Entry<T> {
     pub number: u64,
     pub set: Option<i64>,
     pub what: What<T>,
+    // when it was offered, in nanoseconds
     pub time: u64,
     // of a kept end whose set is ended: when the set's first committed end was offered
     pub ended: Option<u64>,
+}
+
+impl<T> Entry<T> {
+    // Not the end of a set.
+    #[tactic(auto, unfolding(crate::specs::Entry::is_sample))]
+    pub fn is_sample(&self) -> bool
+        ensures { result ≡ is_sample self.now }
+    {
+        matches!(self.what, What::Sample(_))
+    }
 }

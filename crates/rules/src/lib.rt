@@ -1,4 +1,4 @@
-// The rules of the group history (group_order.rs of the source): its records, the definitions with their theorems, and leaves on the group's
+// The rules of the group history (group_order.rs of the source): its records, the definitions with their theorems, and functions on the group's
 // numbers.
 #![tactic(auto)]
 

@@ -34,13 +34,10 @@ impl Group {
 
     // A heartbeat raises the announced number.
     #[tactic(auto, unfolding(crate::specs::Marks::announced_to))]
-    pub fn announced_to(self, current: u64) -> Group
-        ensures { result ≡ announced_to current self }
+    pub fn announce(&mut self, current: u64)
+        ensures { self.new ≡ announced_to current self.old }
     {
-        Group {
-            announced: self.announced.max(current),
-            ..self
-        }
+        self.announced = self.announced.max(current);
     }
 }
 
@@ -59,17 +56,15 @@ pub struct Writer {
     pub secure: Option<u32>,
 }
 
-// The reader's mark raised to n; of a reader above 7 there is none.
+// Raises the reader's mark to n; a reader above 7 has none.
 #[tactic(auto, unfolding(crate::specs::Marks::raise))]
-fn raised(marks: [u64; 8], reader: u8, n: u64) -> [u64; 8]
-    ensures { result ≡ raise marks reader n }
+fn raise(marks: &mut [u64; 8], reader: u8, n: u64)
+    ensures { marks.new ≡ raise marks.old reader n }
 {
-    let mut marks = marks;
     let r = usize::from(reader);
     if r < 8 {
         marks[r] = marks[r].max(n);
     }
-    marks
 }
 
 impl Writer {
@@ -100,47 +95,38 @@ impl Writer {
 
     // An offer raises the highest number seen and stores the digest.
     #[tactic(auto, unfolding(crate::specs::Marks::saw))]
-    pub fn saw(self, reader: u8, number: u64, digest: u32) -> Writer
-        ensures { result ≡ saw reader number digest self }
+    pub fn see(&mut self, reader: u8, number: u64, digest: u32)
+        ensures { self.new ≡ saw reader number digest self.old }
     {
-        Writer {
-            seen: raised(self.seen, reader, number),
-            digest: Some(digest),
-            ..self
-        }
+        raise(&mut self.seen, reader, number);
+        self.digest = Some(digest);
     }
 
     // A gap raises the gap end.
     #[tactic(auto, unfolding(crate::specs::Marks::gapped))]
-    pub fn gapped(self, reader: u8, number: u64) -> Writer
-        ensures { result ≡ gapped reader number self }
+    pub fn raise_gap(&mut self, reader: u8, number: u64)
+        ensures { self.new ≡ gapped reader number self.old }
     {
-        Writer {
-            gaps: raised(self.gaps, reader, number),
-            ..self
-        }
+        raise(&mut self.gaps, reader, number);
     }
 
     // A heartbeat replaces range, current number and secure digest, and the writer digest only if it has one.
     #[tactic(auto, unfolding(crate::specs::Marks::announced, crate::specs::Marks::or_keep))]
-    pub fn announced(
-        self,
+    pub fn announce(
+        &mut self,
         first: u64,
         last: u64,
         current: u64,
         digest: Option<u32>,
         secure: Option<u32>,
-    ) -> Writer
-        ensures { result ≡ announced first last current digest secure self }
+    )
+        ensures { self.new ≡ announced first last current digest secure self.old }
     {
-        Writer {
-            first,
-            last,
-            current,
-            digest: digest.or(self.digest),
-            secure,
-            ..self
-        }
+        self.first = first;
+        self.last = last;
+        self.current = current;
+        self.digest = digest.or(self.digest);
+        self.secure = secure;
     }
 }
 

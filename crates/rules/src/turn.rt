@@ -4,7 +4,7 @@ ghost use Rattle.std.specs.Prelude.{◌≡◌, ◌-◌, ltb, unwrap_or, option_m
 use crate::state::{Group, Writer};
 use crate::view::{DigestRow, Pair};
 
-// The counted rows and digest rows are those of all groups; times and the timeout are in nanoseconds.
+// The counted rows are the group's own, the digest rows those of all groups; times and the timeout are in nanoseconds.
 #[derive(Clone, Copy)]
 pub struct GroupTurn<'a> {
     pub group: Group,
@@ -16,7 +16,7 @@ pub struct GroupTurn<'a> {
 }
 
 impl GroupTurn<'_> {
-    // What was offered at that time waited less than the timeout: 0 if the clock went back, 0 if there is none.
+    // What was offered at that time waited less than the timeout; it waited 0 if the clock went back, or if nothing was offered.
     pub fn is_young(&self, offered: Option<u64>) -> bool
         ensures { result ≡ ltb (unwrap_or (option_map (λ t. self.now.time - t) offered) 0) self.now.timeout }
     {

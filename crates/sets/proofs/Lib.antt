@@ -1,3 +1,4 @@
 pub mod Filled
+pub mod Keeping
 pub mod Lowest
 pub mod Whole

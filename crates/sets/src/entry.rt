@@ -3,6 +3,7 @@
 
 ghost use Rattle.std.specs.Prelude.{◌≡◌};
 ghost use Rattle.rules.specs.Entry.{in_set, is_member, is_end_of, of_pair};
+ghost use Rattle.rules.specs.Offer.{shares, replaced};
 ghost use Rattle.rules.specs.Sets.{agrees_w};
 ghost use Rattle.rules.specs.Run.{place_of};
 
@@ -11,7 +12,7 @@ use rules::entry::{Entry, What};
 use rules::number::is_distance;
 
 // Of the group's set.
-pub fn is_in(e: &Entry<u32>, group: [u8; 16], set: i64) -> bool
+pub(crate) fn is_in(e: &Entry<u32>, group: [u8; 16], set: i64) -> bool
     ensures { result ≡ in_set group set e.now }
 {
     e.set == Some(set) && same(group, e.group)
@@ -21,7 +22,7 @@ pub fn is_in(e: &Entry<u32>, group: [u8; 16], set: i64) -> bool
 pub(crate) fn is_member(e: &Entry<u32>, group: [u8; 16], set: i64) -> bool
     ensures { result ≡ is_member group set e.now }
 {
-    matches!(e.what, What::Sample(_)) && is_in(e, group, set)
+    e.is_sample() && is_in(e, group, set)
 }
 
 // Of the pair of writer and reader.
@@ -32,10 +33,33 @@ pub(crate) fn is_of_pair(e: &Entry<u32>, writer: [u8; 16], reader: u8) -> bool
 }
 
 // The kept end of the pair in the group's set.
-pub fn is_end_of(e: &Entry<u32>, group: [u8; 16], set: i64, writer: [u8; 16], reader: u8) -> bool
+pub(crate) fn is_end_of(
+    e: &Entry<u32>,
+    group: [u8; 16],
+    set: i64,
+    writer: [u8; 16],
+    reader: u8,
+) -> bool
     ensures { result ≡ is_end_of group set writer reader e.now }
 {
-    matches!(e.what, What::End(_)) && is_of_pair(e, writer, reader) && is_in(e, group, set)
+    !e.is_sample() && is_of_pair(e, writer, reader) && is_in(e, group, set)
+}
+
+// h is of e's set.
+#[tactic(auto, unfolding(rules::specs::Offer::shares, rules::specs::Entry::in_set))]
+pub fn shares(e: &Entry<u32>, h: &Entry<u32>) -> bool
+    ensures { result ≡ shares e.now h.now }
+{
+    e.set.is_some_and(|set| is_in(h, e.group, set))
+}
+
+// h is the kept end of e's pair in e's set.
+#[tactic(auto, unfolding(rules::specs::Offer::replaced, rules::specs::Offer::shares, rules::specs::Entry::is_end_of, rules::specs::Entry::in_set))]
+pub fn replaces(e: &Entry<u32>, h: &Entry<u32>) -> bool
+    ensures { result ≡ replaced e.now h.now }
+{
+    e.set
+        .is_some_and(|set| is_end_of(h, e.group, set, e.writer, e.reader))
 }
 
 // A kept end agrees with the number of its pair's members.

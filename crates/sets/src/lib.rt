@@ -7,6 +7,7 @@ ghost use Rattle.laws.specs.Lists.{list_any, list_all, find};
 ghost use Rattle.rules.specs.Entry.{is_end_of, is_member};
 ghost use Rattle.rules.specs.Sets.{lowest_ended, lesser, end_missing, members_of, members_of_pair, agrees, whole, without};
 ghost use Rattle.rules.specs.Release.{waits, discards};
+ghost use Rattle.rules.specs.Offer.{keep_end};
 ghost use Rattle.rules.specs.Run.{place_of};
 ghost use Rattle.rules.specs.State.{no_counts};
 ghost use Rattle.rules.specs.GroupTurn.{turn_as};
@@ -20,8 +21,8 @@ use rules::view::Pair;
 
 mod entry;
 
-pub use entry::{is_end_of, is_in, place_of};
-use entry::{end_agrees, is_member, is_of_pair};
+pub use entry::{place_of, replaces, shares};
+use entry::{end_agrees, is_end_of, is_in, is_member, is_of_pair};
 
 // The entries in the order in which they were committed or joined.
 #[derive(Drop)]
@@ -30,7 +31,7 @@ pub struct Sets {
     pub counts: ReleaseCounts,
 }
 
-// The lower of two numbers that may be absent.
+// The lower of two numbers that may be absent. Not std's `min`, to which an absent one is the lower.
 pub fn lesser(a: Option<i64>, b: Option<i64>) -> Option<i64>
     ensures { result ≡ lesser a b }
 {
@@ -53,6 +54,7 @@ fn add_incomplete(c: ReleaseCounts, members: u64) -> ReleaseCounts
     }
 }
 
+// Group and set number stay two parameters, as the definitions have them: a record of both would be taken apart in every clause.
 impl Sets {
     // No set is open, and the counts are 0.
     #[tactic(auto, unfolding(rules::specs::State::no_counts))]
@@ -123,10 +125,7 @@ impl Sets {
         ensures { result ≡ end_missing turn.now.group.guid set (turn_as turn.now).counted self.now.held.items }
     {
         let group = turn.group.guid;
-        turn.counted
-            .iter()
-            .filter(|p| same(group, p.group))
-            .any(|p| !self.has_end(group, set, p))
+        turn.counted.iter().any(|p| !self.has_end(group, set, p))
     }
 
     // When the set's first member was offered.
@@ -152,10 +151,7 @@ impl Sets {
         ensures { result ≡ list_all (λ p. agrees turn.now.group.guid set self.now.held.items p) (turn_as turn.now).counted }
     {
         let group = turn.group.guid;
-        turn.counted
-            .iter()
-            .filter(|p| same(group, p.group))
-            .all(|p| self.pair_agrees(group, set, p))
+        turn.counted.iter().all(|p| self.pair_agrees(group, set, p))
     }
 
     // No counted pair's end is missing, and each agrees.
@@ -175,6 +171,16 @@ impl Sets {
             .iter()
             .filter(|h| is_member(h, group, set))
             .count() as u64
+    }
+
+    // The end is kept, marked so, in place of its pair's earlier one; where 256 others are held it is dropped.
+    #[tactic(auto, unfolding(rules::specs::Offer::keep_end, rules::specs::Offer::marked))]
+    pub fn keep_end(&mut self, e: Entry<u32>, ended: Option<u64>)
+        ensures held { self.new.held.items ≡ take 256 (keep_end ended e self.old.held.items) }
+        ensures counts { self.new.counts ≡ self.old.counts }
+    {
+        self.held.retain(|h| !replaces(&e, h));
+        let _ = self.held.try_push(Entry { ended, ..e });
     }
 
     // The set's entries leave.

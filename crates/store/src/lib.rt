@@ -22,8 +22,7 @@ pub struct Store {
 }
 
 impl Store {
-    ghost use Rattle.rules.specs.State.{fresh, stored, committed_of, knows_group, knows_writer};
-    ghost use Rattle.rules.specs.Offer.{ninth, pair33};
+    ghost use Rattle.rules.specs.State.{fresh, stored, knows_writer};
     ghost use Rattle.store.specs.Store.{state_of};
 
     // Nothing known or stored.
@@ -40,45 +39,12 @@ impl Store {
         }
     }
 
-    // The group's committed number; 0 of an unknown group.
-    #[tactic(auto, unfolding(rules::specs::State::committed_of, rules::specs::State::committed_in))]
-    pub fn committed_of(&self, group: [u8; 16]) -> u64
-        ensures { result ≡ committed_of group (state_of self.now).groups }
-    {
-        let known = self.groups.as_slice().iter().find(|g| g.is(group));
-        known.map_or(0, |g| g.committed)
-    }
-
     // Whether the pair of group and writer is known.
     #[tactic(auto, unfolding(rules::specs::State::knows_writer))]
     pub fn knows(&self, group: [u8; 16], writer: [u8; 16]) -> bool
         ensures { result ≡ knows_writer group writer (state_of self.now).writers }
     {
         self.writers.as_slice().iter().any(|w| w.is(group, writer))
-    }
-
-    // Whether the group is known.
-    #[tactic(auto, unfolding(rules::specs::State::knows_group))]
-    pub fn knows_group(&self, group: [u8; 16]) -> bool
-        ensures { result ≡ knows_group group (state_of self.now).groups }
-    {
-        self.groups.as_slice().iter().any(|g| g.is(group))
-    }
-
-    // The group would be the ninth.
-    #[tactic(auto, unfolding(rules::specs::Offer::ninth))]
-    pub fn is_ninth(&self, group: [u8; 16]) -> bool
-        ensures { result ≡ ninth group (state_of self.now) }
-    {
-        !self.knows_group(group) && self.groups.is_full()
-    }
-
-    // The pair would be the 33rd.
-    #[tactic(auto, unfolding(rules::specs::Offer::pair33))]
-    pub fn is_33rd(&self, group: [u8; 16], writer: [u8; 16]) -> bool
-        ensures { result ≡ pair33 group writer (state_of self.now) }
-    {
-        !self.knows(group, writer) && self.writers.is_full()
     }
 
     // 256 entries are stored.

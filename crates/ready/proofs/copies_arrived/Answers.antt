@@ -1,8 +1,6 @@
 use Rattle.std.proofs.Common.{◌∙◌, ap, rules, tests}
 use Rattle.std.proofs.lemmas.Iterator.{YieldsList-from_slice}
-use Rattle.std.proofs.lemmas.Iterator.Consumers.{YieldsList-from_filter, YieldsList-at}
 use Rattle.std.proofs.lemmas.Iterator.Search.{all_from_yields_List}
-use Rattle.guids.specs.Guid.{same_guid}
 use Rattle.rules.specs.Commit.{copies_arrived}
 use Rattle.rules.specs.GroupTurn.{turn_as}
 use Rattle.ready.specs.Places.{entries_at, copied}
@@ -14,6 +12,6 @@ returns c =
     let t = turn_as c.args.turn.now in
     let n = c.args.number in
     let h = c.new-heads.result in
-    all_from_yields_List (λ p. copied t n (entries_at h.pending.now h.places.now) p) _ _ _ c.all.ensures.ran (YieldsList-from_filter _ (λ p. same_guid t.guid p.group) (YieldsList-at c.filter.ensures.source (YieldsList-from_slice _ cc)) c.filter.ensures.closure (λ x r q k. search (rules, tests))) (λ x r q k. search (rules, tests))
+    all_from_yields_List (λ p. copied t n (entries_at h.pending.now h.places.now) p) _ _ _ c.all.ensures.ran (YieldsList-from_slice _ cc) (λ x r q k. search (rules, tests))
     ∙ copies_turned t n _
     ∙ ap (λ l. copies_arrived t n l) c.new-heads.ensures

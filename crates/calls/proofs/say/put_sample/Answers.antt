@@ -10,4 +10,4 @@ pub returns : goal.returns
 unfolding place_text
 returns g c =
     let p = c.args.place in
-    said_as (sym (append_assoc (32 ∷ digits_of (p / 2 ^ 32)) (58 ∷ []) (digits_of (p % 2 ^ 32)))) (said_both (said_both c.put_spaced.ensures (said c.put_bytes.ensures)) (said c.put_unsigned.ensures))
+    said_as (sym (append_assoc (32 ∷ digits_of (p / 2 ^ 32)) (58 ∷ []) (digits_of (p % 2 ^ 32)))) (said_both (said_both c.put_spaced.ensures (said c.put_byte.ensures)) (said c.put_unsigned.ensures))

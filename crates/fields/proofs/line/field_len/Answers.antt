@@ -1,7 +1,7 @@
 use Rattle.std.proofs.Common.{◌≡◌, ℕ, MatchOption, length, refl, eqb, ◌||◌, rules, tests}
 use Rattle.std.proofs.lemmas.Iterator.Search.{position_from_yields_List}
 use Rattle.std.proofs.lemmas.Iterator.{YieldsList-from_slice}
-use Rattle.fields.specs.Cursor.{ends, field_in}
+use Rattle.fields.specs.Front.{ends, field_in}
 use Rattle.fields.proofs.Left.{field_found}
 use Rattle.fields.proofs.line.field_len.Goals as goal
 use Rattle.fields.proofs.line.field_len.Goals.{After-position}

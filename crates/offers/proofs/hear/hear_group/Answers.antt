@@ -1,13 +1,44 @@
-use Rattle.std.proofs.Common.{◌≡◌, ◌∙◌, sym, ap}
+use Rattle.std.proofs.Common.{◌≡◌, ◌∙◌, ◌≤◌, sym, ap, rules, arith, length, None, Some, true}
+use borrow.Author.Tests.{leb-false}
+use Rattle.std.specs.List.{position, insert}
+use Rattle.guids.specs.Guid.{before}
+use Rattle.rules.specs.State.{is_group, knows_group, new_group}
 use Rattle.rules.specs.Marks.{hear_group}
-use Rattle.rules.specs.Offer.{with_marks}
+use Rattle.rules.specs.Offer.{with_marks, ninth}
 use Rattle.store.specs.Store.{state_of}
-use Rattle.offers.proofs.Hearing.{heard_at}
+use Rattle.offers.proofs.Hearing.{heard_at, heard_known, none_found, found_inserted, place_within, own_group}
 use Rattle.offers.proofs.hear.hear_group.Goals as goal
 
-pub returns : goal.returns
+pub returns-in-Some-clause-heard : goal.returns-in-Some-clause-heard
 unfolding with_marks
-returns c =
+returns-in-Some-clause-heard c =
     let s = c.args.store.now in
-    let k : c.insert.new.self.items ≡ hear_group c.args.group s.groups.items = c.insert.ensures.items ∙ rw (c.unwrap_or-at.ensures, c.new.ensures, c.first_behind.ensures, c.len.ensures.value) (heard_at c.args.group s.groups.items (sym c.knows_group.ensures ∙ c.if-knows_group.false)) in
+    let k = heard_known c.args.sender.group s.groups.items c.in-Some.at (sym c.in-Some.is ∙ ap (λ x. x.group_at) c.requires.known) in
+    ap (λ gs. with_marks gs s.writers.items (state_of s)) (sym k)
+
+pub insert-requires : goal.insert-requires
+unfolding ninth knows_group
+insert-requires c =
+    let l = c.args.store.now.groups.items in
+    let n = none_found (λ x. is_group c.args.sender.group x) l (sym c.in_default.is ∙ ap (λ x. x.group_at) c.requires.known) in
+    let room = leb-false 8 (length l) (rw n at c.requires.room) in
+    let at : c.unwrap_or-at.result ≤ length l = rw (c.unwrap_or-at.ensures, c.first_behind.ensures, c.len.ensures.value) (place_within (λ x. before c.args.sender.group x.guid) l) in
+    (search rules, (at, room))
+
+pub returns-clause-heard : goal.returns-clause-heard
+unfolding with_marks knows_group
+returns-clause-heard c =
+    let s = c.args.store.now in
+    let l = s.groups.items in
+    let g = c.args.sender.group in
+    let n = none_found (λ x. is_group g x) l (sym c.in_default.is ∙ ap (λ x. x.group_at) c.requires.known) in
+    let k : c.insert.new.self.items ≡ hear_group g l = c.insert.ensures.items ∙ rw (c.unwrap_or-at.ensures, c.new.ensures, c.first_behind.ensures, c.len.ensures.value) (heard_at g l n) in
     ap (λ gs. with_marks gs s.writers.items (state_of s)) k
+
+pub returns-clause-at : goal.returns-clause-at
+returns-clause-at c =
+    let l = c.args.store.now.groups.items in
+    let g = c.args.sender.group in
+    let at : c.unwrap_or-at.result ≤ length l = rw (c.unwrap_or-at.ensures, c.first_behind.ensures, c.len.ensures.value) (place_within (λ x. before g x.guid) l) in
+    let e = found_inserted (λ x. is_group g x) l c.unwrap_or-at.result (new_group g) at (sym c.in_default.is ∙ ap (λ x. x.group_at) c.requires.known) (own_group g) in
+    e ∙ ap (λ k. position (λ x. is_group g x) k) (rw (sym c.new.ensures) (sym c.insert.ensures.items))

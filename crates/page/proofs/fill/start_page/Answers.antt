@@ -1,17 +1,18 @@
-use Rattle.std.proofs.Common.{◌≡◌, ◌*◌, ◌∙◌, Some, None, refl, ap, ap₂, set, length, arith}
+use Rattle.std.proofs.Common.{◌≡◌, refl, ◌∙◌, ◌*◌, ◌-◌, ◌++◌, ap, ap₂, sym, arith, rules, Some, None, replicate, length, drop, length-take}
+use Rattle.std.proofs.lemmas.List.{drop-replicate}
+use Rattle.std.specs.Prelude.{Option}
 use Rattle.rules.specs.Page.{empty_row}
 use Rattle.page.specs.Rows.{rows_as}
-use Rattle.page.proofs.Starting.{row0, row_is, first_of, first_more, start_first}
+use Rattle.page.specs.declared.row.Row.{Row}
+use Rattle.page.proofs.Starting.{row0, row_is, start_first}
 use Rattle.page.proofs.fill.start_page.Goals as goal
-
-pub loop-k-preserved : goal.loop-k-preserved
-loop-k-preserved c =
-    let k = c.loop-k.k in
-    ap₂ (λ l r. set l k (Some r)) c.loop-k.invariant (row_is c.default.result c.default.ensures) ∙ first_more (Some row0) None k 64 (omega arith)
 
 pub returns : goal.returns
 unfolding empty_row
 returns c =
     let gs = c.args.store.now.groups.items in
-    let k : c.loop-k.k ≡ 8 * length gs = omega arith in
-    ap (λ l. rows_as l) c.loop-k.invariant ∙ ap (λ j. rows_as (first_of (Some row0) None j 64)) k ∙ start_first row0 gs 8 refl (omega arith)
+    let e = row_is c.default.result c.default.ensures in
+    let n : c.len.result ≡ length gs = search rules in
+    let f : c.fill.new.self ≡ replicate (8 * length gs) (Some row0) = c.fill.ensures.after (λ y h. search rules) ∙ ap₂ (λ k r. replicate k (Some r)) (omega (arith, n, length-take (8 * c.len.result) (replicate {A = Option Row} 64 None))) e in
+    let d : drop (8 * c.len.result) (replicate 64 None) ≡ replicate (64 - 8 * length gs) None = ap (λ m. drop {A = Option Row} m (replicate 64 None)) (ap (λ k. 8 * k) n) ∙ drop-replicate (8 * length gs) 64 None in
+    ap₂ (λ a b. rows_as (a ++ b)) f d ∙ start_first row0 gs 8 refl (omega arith)

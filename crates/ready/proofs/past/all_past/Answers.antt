@@ -1,9 +1,7 @@
 use Rattle.std.proofs.Common.{◌∙◌, ◌-◌, ap, sym, arith, rules, tests}
 use Rattle.std.proofs.lemmas.Iterator.{YieldsList-from_slice}
-use Rattle.std.proofs.lemmas.Iterator.Consumers.{YieldsList-from_filter, YieldsList-at}
 use Rattle.std.proofs.lemmas.Iterator.Search.{all_from_yields_List}
 use Rattle.laws.specs.Lists.{list_all}
-use Rattle.guids.specs.Guid.{same_guid}
 use Rattle.rules.specs.Commit.{all_from, pair_past}
 use Rattle.rules.specs.GroupTurn.{turn_as}
 use Rattle.ready.proofs.Walks.{from_all, from_next}
@@ -14,7 +12,7 @@ returns c =
     let t = turn_as c.args.turn.now in
     let a = c.saturating_add-from.result in
     let n = c.args.number in
-    all_from_yields_List (λ p. all_from a (n - a) (λ m. pair_past t p.writer p.reader m)) _ _ _ c.all.ensures.ran (YieldsList-from_filter _ (λ p. same_guid t.guid p.group) (YieldsList-at c.filter.ensures.source (YieldsList-from_slice _ cc)) c.filter.ensures.closure (λ x r q k. search (rules, tests))) (λ x r q k. search (rules, tests))
+    all_from_yields_List (λ p. all_from a (n - a) (λ m. pair_past t p.writer p.reader m)) _ _ _ c.all.ensures.ran (YieldsList-from_slice _ cc) (λ x r q k. search (rules, tests))
     ∙ sym (from_all a (n - a) (λ p m. pair_past t p.writer p.reader m) t.counted)
     ∙ ap (λ b. all_from b (n - b) (λ m. list_all (λ p. pair_past t p.writer p.reader m) t.counted)) c.saturating_add-from.ensures
     ∙ from_next c.args.committed n _ _ (omega arith)

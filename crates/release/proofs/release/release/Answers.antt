@@ -6,7 +6,7 @@ use Rattle.rules.specs.Release.{malformed, samples, release_refusal, release}
 use Rattle.store.specs.Store.{state_of}
 use Rattle.release.specs.Released.{release_to, view_of}
 use Rattle.release.specs.GroupSteps.{ReleasedTo}
-use Rattle.release.proofs.Groups.{released_none, released_more, still_within, places_fit, answers}
+use Rattle.release.proofs.Groups.{released_none, released_more, still_within, places_fit, answers, few_counted}
 use Rattle.release.proofs.release.release.Goals as goal
 
 pub returns-then-is_malformed-clause-is : goal.returns-then-is_malformed-clause-is
@@ -30,6 +30,9 @@ loop-i-init c = record {
 
 pub release_at-requires-clause-within : goal.release_at-requires-clause-within
 release_at-requires-clause-within c = still_within (view_of c.args.counted.now c.args.digests.now) c.args.time c.args.store.now c.loop-i.i c.loop-i.store c.loop-i.handed.items (omega arith) c.loop-i.invariant.released
+
+pub release_at-requires-clause-counted : goal.release_at-requires-clause-counted
+release_at-requires-clause-counted c = few_counted c.args.counted.now c.args.digests.now (sym c.is_malformed.ensures ∙ c.if-is_malformed.false)
 
 pub loop-i-preserved : goal.loop-i-preserved
 loop-i-preserved c =

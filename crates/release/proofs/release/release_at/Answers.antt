@@ -44,12 +44,12 @@ returns-in-Some-clause-steps c =
     let e : c.release_group.result ≡ Some c.in-Some.number = search rules in
     let r : c.retain.new.self.items ≡ left g (Some c.in-Some.number) c.args.store.now.pending.items =
     filter-from_retain _ (λ x. not (of_group g x) || ltb c.in-Some.number x.number) _ (λ x b f y called. search rules) _ _ c.retain.ensures.filtered ∙ left_above g c.in-Some.number c.args.store.now.pending.items in
-    let t : GroupTurn = record { group = get_or c.as_slice.result.now c.args.i new; writers = c.as_slice-2.result; counted = c.args.counted; digests = c.args.digests; time = c.args.time; timeout = c.args.store.now.timeout } in
+    let t : GroupTurn = record { group = get_or c.as_slice.result.now c.args.i new; writers = c.as_slice-2.result; counted = c.as_slice-3.result; digests = c.args.digests; time = c.args.time; timeout = c.args.store.now.timeout } in
     let changed : Group → Group = λ x. record { guid = x.guid; committed = c.in-Some.number; announced = x.announced } in
     let old = c.args.store.now.groups in
     let k : length (slice_set c.as_mut_slice.result.now c.args.i (changed (get_or c.as_mut_slice.result.now c.args.i new))) ≡ length old.items =
     length-set c.as_mut_slice.result.now c.args.i (changed (get_or c.as_mut_slice.result.now c.args.i new)) ∙ ap length c.as_mut_slice.ensures.value in
-    stepped t c.args.i new c.args.store.now _ c.args.out.now.items c.release_group.new.out.items (Some c.in-Some.number) c.requires.within (ap (λ l. get_or l c.args.i new) c.as_slice.ensures.value) c.as_slice-2.ensures.value refl
+    stepped t c.args.i new c.args.store.now _ c.args.out.now.items c.release_group.new.out.items (Some c.in-Some.number) c.args.counted.now (rw (c.as_slice-3.ensures.value) c.rows_of-rows.ensures) c.requires.within (ap (λ l. get_or l c.args.i new) c.as_slice.ensures.value) c.as_slice-2.ensures.value refl
     (subst (λ (q : Option ℕ). GroupReleased t c.args.store.now.pending.items c.args.store.now.sets c.args.out.now.items q c.release_group.new.sets c.release_group.new.out.items) e c.release_group.ensures.goes)
     r
     (items-with_items old (slice_set c.as_mut_slice.result.now c.args.i (changed (get_or c.as_mut_slice.result.now c.args.i new))) k
@@ -61,9 +61,9 @@ pub returns-in_default-clause-steps : goal.returns-in_default-clause-steps
 unfolding committed_at
 returns-in_default-clause-steps c =
     let e : c.release_group.result ≡ None = search rules in
-    let t : GroupTurn = record { group = get_or c.as_slice.result.now c.args.i new; writers = c.as_slice-2.result; counted = c.args.counted; digests = c.args.digests; time = c.args.time; timeout = c.args.store.now.timeout } in
+    let t : GroupTurn = record { group = get_or c.as_slice.result.now c.args.i new; writers = c.as_slice-2.result; counted = c.as_slice-3.result; digests = c.args.digests; time = c.args.time; timeout = c.args.store.now.timeout } in
     let old = c.args.store.now.groups in
-    stepped t c.args.i new c.args.store.now _ c.args.out.now.items c.release_group.new.out.items None c.requires.within (ap (λ l. get_or l c.args.i new) c.as_slice.ensures.value) c.as_slice-2.ensures.value refl
+    stepped t c.args.i new c.args.store.now _ c.args.out.now.items c.release_group.new.out.items None c.args.counted.now (rw (c.as_slice-3.ensures.value) c.rows_of-rows.ensures) c.requires.within (ap (λ l. get_or l c.args.i new) c.as_slice.ensures.value) c.as_slice-2.ensures.value refl
     (subst (λ (q : Option ℕ). GroupReleased t c.args.store.now.pending.items c.args.store.now.sets c.args.out.now.items q c.release_group.new.sets c.release_group.new.out.items) e c.release_group.ensures.goes)
     refl
     (sym (ap (λ (l : List Group). slice_set old.items c.args.i (get_or l c.args.i new)) c.as_slice.ensures.value ∙ set-get_or old.items c.args.i new))

@@ -1,6 +1,7 @@
 use Rattle.std.proofs.Common.{◌∙◌}
 use Rattle.fields.specs.Left.{left, sole}
-use Rattle.fields.proofs.Left.{text_none, text_some, sole_one, sole_other}
+use Rattle.fields.proofs.Left.{text_none, text_some}
+use Rattle.fields.proofs.Dashes.{sole_one, sole_other}
 use Rattle.fields.proofs.line.Fields.letter.Goals as goal
 
 pub returns-in_err-field-clause-letter : goal.returns-in_err-field-clause-letter

@@ -1,7 +1,7 @@
 use Rattle.std.proofs.Common.{arith}
 use Rattle.std.proofs.lemmas.List.{drop_all}
 use Rattle.fields.specs.Left.{left, behind}
-use Rattle.fields.proofs.OnePass.{line_whole}
+use Rattle.fields.proofs.Left.{line_whole}
 use Rattle.fields.proofs.line.Fields.of_line.Goals as goal
 
 pub returns-clause-fields : goal.returns-clause-fields

@@ -1,6 +1,0 @@
-use Rattle.std.proofs.Common.{arith}
-use Rattle.decimal.proofs.Printing.{digits_decimal}
-use Rattle.decimal.proofs.put_unsigned.Goals as goal
-
-pub returns : goal.returns
-returns c = rw (digits_decimal c.args.n (omega arith)) (cc)
