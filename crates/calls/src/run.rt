@@ -1,6 +1,5 @@
 // The lines of a call list, run.
-ghost use Rattle.std.specs.Prelude.{◌≡◌};
-ghost use Rattle.std.specs.Prelude.{Some};
+ghost use Rattle.std.specs.Prelude.{◌≡◌, [], Some};
 ghost use Rattle.call_line.specs.Line.{line_of};
 ghost use Rattle.call_line.specs.declared.line.Line.TheVariants as L;
 ghost use Rattle.calls.specs.Run.{afresh};
@@ -34,6 +33,13 @@ impl Model for Calls {
     ghost view = { λ calls. record { history = calls.order; counted = calls.counted.items; digests = calls.digests.items } };
 
     ghost invariant = { λ calls. Narrow calls.order };
+}
+
+// No row is counted.
+fn clear_counted(counted: &mut ArrayVec<Pair, 257>)
+    ensures { counted.new.items ≡ [] }
+{
+    counted.clear();
 }
 
 impl Calls {
@@ -80,8 +86,8 @@ impl Calls {
     fn start<const N: usize>(&mut self, timeout: u64, text: &mut ArrayVec<u8, N>)
         ensures { Ran N (Some (L.Timeout timeout)) self.old self.new text.old.items text.new.items }
     {
-        self.order = GroupOrder::new(timeout);
-        self.counted.clear();
+        self.order.restart(timeout);
+        clear_counted(&mut self.counted);
         self.digests.clear();
         put_bytes(text, b"ok")
     }

@@ -1,10 +1,10 @@
 -- The words of the lent list.
-use Prim.Native.Nat.{ℕ, ◌+◌, ◌*◌, ◌<◌}
+use Prim.Native.Nat.{ℕ, ◌+◌, ◌*◌, ◌≤◌, ◌<◌}
 use mathlib.Core.Path.{◌≡◌, refl, sym, ap, ◌∙◌}
 use mathlib.Core.List.{List, [], ◌∷◌, ◌++◌, map, map-append, append_assoc, append-nil}
 use native.Mathlib.Numerals.{add-one}
 use native.Mathlib.Omega.{arith}
-use lib.ListN.{length, take, drop, get_or, length-append, length-map}
+use lib.ListN.{length, take, drop, get_or, length-append, length-drop, length-map}
 use lib.Seq.{drop-drop, drop-append-add, take-suc, take_at, length-take-le, paste}
 use Rattle.coherent_hold.specs.Gate.{Item, words_of, words, written, member_as}
 use Rattle.coherent_hold.specs.declared.items.Member.{Member}
@@ -22,6 +22,11 @@ words_more (x ∷ l) i = ap (λ w. words_of x ++ w) (words_more l i) ∙ sym (ap
 pub written_none : (o : List ℕ) → o ≡ written [] o
 unfolding written words
 written_none o = refl
+
+-- no more than the lent list has
+pub written_length : (l : List Item) (o : List ℕ) → length l * 5 ≤ length o → length (written l o) ≡ length o
+unfolding written
+written_length l o h = length-append (words l) (drop (length l * 5) o) ∙ omega (arith, words_length l, length-drop (length l * 5) o)
 
 -- one more item behind those written
 pub written_more : (l : List Item) (o : List ℕ) (i : Item) → paste (written l o) (length l * 5) (words_of i) 5 ≡ written (l ++ (i ∷ [])) o

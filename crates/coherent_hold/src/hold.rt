@@ -5,12 +5,12 @@ ghost use Rattle.laws.specs.Lists.{filter};
 ghost use Rattle.coherent_hold.specs.Gate.{leaves, is_full, member_as, hold_as, fresh_hold};
 
 use crate::items::Member;
-use arrayvec::ArrayVec;
+use fixed_list::FixedList;
 
-pub type Members = ArrayVec<Member, 64>;
+pub type Members = FixedList<Member, 64>;
 
 // In the order of their arrival.
-#[derive(Clone, Drop)]
+#[derive(Clone, Copy)]
 pub struct CoherentHold {
     pub held: Members,
 }

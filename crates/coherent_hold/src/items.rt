@@ -2,6 +2,8 @@
 ghost use Rattle.std.specs.Prelude.{◌≡◌, None, Some, MatchOption};
 ghost use Rattle.coherent_hold.specs.Gate.{member_mark, leaves, item_as, member_as, blank_member};
 
+use fixed_list::Blank;
+
 // The end of a writer's coherent set: its own number, and the flag.
 #[derive(Clone, Copy, PartialEq, Eq, Debug)]
 pub struct CoherentSetEnd {
@@ -49,6 +51,14 @@ impl Default for Member {
             set: 0,
             item: 0,
         }
+    }
+}
+
+impl Blank for Member {
+    ghost blank = { blank_member };
+
+    fn blank() -> Member {
+        Member::default()
     }
 }
 

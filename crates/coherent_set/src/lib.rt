@@ -2,7 +2,10 @@
 #![tactic(auto)]
 
 ghost use Rattle.std.specs.Prelude.{◌≡◌, negsuc};
+ghost use Rattle.std.specs.Int.{w64};
+ghost use Rattle.std.proofs.Common.{of_z, to_z};
 ghost use Rattle.laws.specs.Answer.{Kept};
+ghost use Rattle.laws.specs.Bytes.{bytes_of};
 ghost use Rattle.refusals.specs.Refusal.{answer_as};
 ghost use Rattle.coherent_set.specs.Marker.{wire, decode, marker_answer_as};
 ghost use Rattle.coherent_set.specs.Scope.{fresh_scope, active_scope, marker_of, marker_as, begin_coherent, end_coherent};
@@ -47,6 +50,28 @@ impl CoherentSetMarker {
         let bytes = <[u8; 8]>::try_from(bytes).map_err(|_| Refusal::NotEightBytes)?;
         Ok(CoherentSetMarker::new(i64::from_be_bytes(bytes)))
     }
+}
+
+// The 64 bits of a number, two's complement.
+pub fn bits_of(x: i64) -> u64
+    ensures { result ≡ of_z w64 x }
+{
+    x.cast_unsigned()
+}
+
+// The number that 64 bits stand for.
+pub fn signed_of(n: u64) -> i64
+    ensures { result ≡ to_z w64 n }
+{
+    n.cast_signed()
+}
+
+// The eight bytes of a number, the most significant first.
+#[tactic(auto, using(crate::proofs::Marker::be_bytes_of))]
+pub fn bytes_of(n: u64) -> [u8; 8]
+    ensures { result ≡ bytes_of 8 n }
+{
+    n.to_be_bytes()
 }
 
 // The publisher's scope: the number of the open set's first sample, if a set is open.
@@ -140,8 +165,9 @@ impl GroupAccessScope {
         ensures is { (answer_as result, self.new) ≡ end_access self.old }
         ensures kept { Kept (answer_as result) self.old self.new }
     {
-        *self = self.ended()?;
-        Ok(())
+        let before = *self;
+        *self = before.ended();
+        before.end_answer()
     }
 
     // The step of `begin`, by value.
@@ -158,16 +184,34 @@ impl GroupAccessScope {
         }
     }
 
-    // The step of `end`, by value.
-    pub fn ended(self) -> Result<GroupAccessScope, Refusal>
-        ensures { access_ended_as self result ≡ end_access self }
+    // The step of `end`, by value: the scope after it.
+    pub fn ended(self) -> GroupAccessScope
+        ensures { result ≡ (end_access self).1 }
+    {
+        match self.open_count {
+            0 => self,
+            n => GroupAccessScope {
+                open_count: n - 1,
+                ..self
+            },
+        }
+    }
+
+    // The step of `end`, by value: its answer.
+    pub fn end_answer(self) -> Result<(), Refusal>
+        ensures { answer_as result ≡ (end_access self).0 }
     {
         match self.open_count {
             0 => Err(Refusal::PreconditionNotMet),
-            n => Ok(GroupAccessScope {
-                open_count: n - 1,
-                ..self
-            }),
+            _ => Ok(()),
         }
+    }
+
+    // Both in one: the scope after it, unless it is refused.
+    pub fn try_ended(self) -> Result<GroupAccessScope, Refusal>
+        ensures { access_ended_as self result ≡ end_access self }
+    {
+        self.end_answer()?;
+        Ok(self.ended())
     }
 }

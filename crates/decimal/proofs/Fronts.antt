@@ -173,7 +173,11 @@ module _ (s : List ℕ) (i n : ℕ) (d : Digits s (Some n) (drop i s)) (h : i �
   pub part_front : then_some (plain (take i s)) n ≡ read_unsigned (unsigned_front s)
   part_front = rw front_is (by_plain (plain (unsigned_front s)) refl)
 
--- ---- a text that is not all digits
+-- ---- the whole text
+
+front_all : (s : List ℕ) → length (drop (unsigned_len s) s) ≡ 0 → unsigned_front s ≡ s
+unfolding unsigned_front
+front_all s e = take_all (unsigned_len s) s (omega (arith, length-drop (unsigned_len s) s))
 
 -- a byte that is no digit
 read_other : (v : ℕ) (s : List ℕ) → 0 < length (drop (unsigned_len s) s) → read_on v s ≡ None
@@ -193,6 +197,14 @@ given_nothing false = refl
 pub part_none : (s : List ℕ) → 0 < length (drop (unsigned_len s) s) → read_unsigned s ≡ None
 unfolding read_unsigned read_number
 part_none s h = rw (read_other 0 s h) (given_nothing (plain s))
+
+-- the rest behind the digits is t
+module _ (s t : List ℕ) (n : Option ℕ) (p : n ≡ read_unsigned (unsigned_front s)) (q : t ≡ drop (unsigned_len s) s) where
+  pub whole_number : length t ≡ 0 → n ≡ read_unsigned s
+  whole_number e = rw (front_all s (rw (← q) e)) at p
+
+  pub part_number : 0 < length t → None ≡ read_unsigned s
+  part_number h = sym (part_none s (rw (← q) h))
 
 -- ---- with a sign, or without
 
@@ -236,6 +248,10 @@ module _ (s : List ℕ) (p : get_or s 0 0 ≡ 45 → ⊥) where
   unfolding signed_front unsigned_front
   plus_number = rw plus_len (signed_plus (unsigned_front s) (λ e. p (front_no_sign s e)))
 
+signed_all : (s : List ℕ) → length (drop (signed_len s) s) ≡ 0 → signed_front s ≡ s
+unfolding signed_front
+signed_all s e = take_all (signed_len s) s (omega (arith, length-drop (signed_len s) s))
+
 pub signed_part : (s : List ℕ) → 0 < length (drop (signed_len s) s) → None ≡ read_signed s
 unfolding plus minus at_most
 signed_part [] h = absurd (omega (arith, length-drop {A = ℕ} (signed_len []) []))
@@ -250,6 +266,14 @@ signed_part (b ∷ s) h =
           let k : 0 < length (drop (unsigned_len (b ∷ s)) (b ∷ s)) = rw (plus_behind (b ∷ s) f) h in
           rw (signed_plus (b ∷ s) f, part_none (b ∷ s) k)
     ]) refl
+
+-- the rest behind the number is t
+module _ (s t : List ℕ) (n : Option ℤ) (p : n ≡ read_signed (signed_front s)) (q : t ≡ drop (signed_len s) s) where
+  pub whole_signed : length t ≡ 0 → n ≡ read_signed s
+  whole_signed e = rw (signed_all s (rw (← q) e)) at p
+
+  pub part_signed : 0 < length t → None ≡ read_signed s
+  part_signed h = signed_part s (rw (← q) h)
 
 -- ---- in 64 bits
 

@@ -1,7 +1,10 @@
 -- A number's digits are those that std prints.
-use Rattle.std.proofs.Common.{◌≡◌, ℕ, zero, suc, ◌+◌, ◌/◌, ◌%◌, ◌^◌, ◌≤◌, ◌<◌, List, [], ◌∷◌, ◌++◌, refl, sym, ap, ◌∙◌, arith, lt-ltb, le-ltb, ltb, ℤ, pos, negsuc}
+use Rattle.std.proofs.Common.{◌≡◌, ℕ, zero, suc, ◌+◌, ◌/◌, ◌%◌, ◌^◌, ◌≤◌, ◌<◌, List, [], ◌∷◌, ◌++◌, refl, sym, ap, ◌∙◌, arith, lt-ltb, le-ltb, ltb, ℤ, pos, negsuc, true, false}
 use mir.Syntax.{w64}
 use mir.Val.{SFits, to_z, of_z}
+use lib.IntN.{nat_abs}
+use lib.Signed.{lt_z}
+use borrow.Author.Tests.{ltb-true}
 use Rattle.std.specs.Fmt.{decimal, signed_decimal}
 use Rattle.std.proofs.lemmas.Int.{to_z-of_z}
 use Rattle.std.proofs.lemmas.Fmt.{decimal_by_steps}
@@ -42,3 +45,15 @@ signed_digits_decimal (negsuc n) h = let b : n < 2 ^ 63 = h.sfits in ap (λ ds. 
 -- what is printed of x's 64 bits
 pub printed : (x : ℤ) (s : List ℕ) → SFits w64 x → s ≡ signed_decimal (to_z w64 (of_z w64 x)) → s ≡ signed_digits x
 printed x s h e = e ∙ ap (λ (z : ℤ). signed_decimal z) (to_z-of_z w64 x h) ∙ sym (signed_digits_decimal x h)
+
+-- ---- by a number's sign and its size
+
+pub minus_digits : (x : ℤ) → lt_z x (pos 0) ≡ true → 45 ∷ digits_of (nat_abs x) ≡ signed_digits x
+unfolding signed_digits
+minus_digits (pos n) e = absurd (omega (arith, ltb-true n 0 e))
+minus_digits (negsuc n) e = refl
+
+pub plus_digits : (x : ℤ) → lt_z x (pos 0) ≡ false → digits_of (nat_abs x) ≡ signed_digits x
+unfolding signed_digits
+plus_digits (pos n) e = refl
+plus_digits (negsuc n) e = cc

@@ -12,11 +12,11 @@ use lib.Seq.{paste, paste-zero, take-length, take_all, take-append-le, take-appe
 use Rattle.decimal.specs.Print.{put}
 
 module _ (out : List ℕ) (at : ℕ) (s : List ℕ) where
-  put_all : length s ≤ length out - at → (at + length s, paste out at s (length s)) ≡ put out at s
+  pub put_all : length s ≤ length out - at → (at + length s, paste out at s (length s)) ≡ put out at s
   unfolding put
   put_all h = rw (min-eq_left h, take-length s, take_all (length out - at) s h, append_assoc)
 
-  put_full : (k : ℕ) → k ≡ length out - at → k ≤ length s → (at + k, paste out at s k) ≡ put out at s
+  pub put_full : (k : ℕ) → k ≡ length out - at → k ≤ length s → (at + k, paste out at s k) ≡ put out at s
   unfolding put
   put_full k e h =
       rw (
@@ -95,6 +95,10 @@ put_next out at (b ∷ s) t =
           let h = leb-false (length l) m e in
           subst P (put_full out at l m refl (omega arith)) (next_full out at l t m refl (omega arith))
     ]) refl
+
+pub puts : (out : List ℕ) (at : ℕ) (s t : List ℕ) {mid out' : List ℕ} {next r : ℕ}
+    → (next, mid) ≡ put out at s → (r, out') ≡ put mid next t → (r, out') ≡ put out at (s ++ t)
+puts out at s t p q = q ∙ ap (λ (w : ℕ × List ℕ). put w.1 w.0 t) p ∙ put_next out at s t
 
 -- ---- behind what a list of at most n bytes holds
 

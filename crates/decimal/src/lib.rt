@@ -1,10 +1,29 @@
-// Decimal numbers, read from a text's front and printed.
+// Decimal numbers, read from text and printed.
 #![tactic(auto)]
 
 pub mod text;
 
 ghost use Rattle.std.specs.Prelude.{◌≡◌, ◌+◌, ◌-◌, ◌*◌, ◌^◌, ◌≤◌, drop, Some};
 ghost use Rattle.decimal.specs.Read.{plain, at_most, plus, minus, read_unsigned, read_signed, unsigned_len, signed_len, unsigned_front, signed_front};
+ghost use Rattle.decimal.specs.Print.{digits_of, signed_digits, put};
+
+use itoa::Buffer;
+
+// The number that all of s spells: digits, with no zero before others.
+pub fn read_unsigned(s: &[u8]) -> Option<u64>
+    ensures { result ≡ read_unsigned s.now }
+{
+    let (number, behind) = split_unsigned(s);
+    if behind.is_empty() { number } else { None }
+}
+
+// The same, with a minus sign in front where the number is negative.
+pub fn read_signed(s: &[u8]) -> Option<i64>
+    ensures { result ≡ read_signed s.now }
+{
+    let (number, behind) = split_signed(s);
+    if behind.is_empty() { number } else { None }
+}
 
 // The number that the digits at s's front spell, with no zero before others, and what stands behind them.
 pub fn split_unsigned(s: &[u8]) -> (Option<u64>, &[u8])
@@ -81,4 +100,43 @@ fn with_digit(n: u64, digit: u8) -> Option<u64>
     ensures { result ≡ at_most (2 ^ 64 - 1) (Some (n * 10 + digit)) }
 {
     n.checked_mul(10)?.checked_add(u64::from(digit))
+}
+
+// Puts s into out from `at` on, as far as out has room, and answers the place behind it.
+pub fn put_bytes(out: &mut [u8], at: usize, s: &[u8]) -> usize
+    ensures { (result, out.new) ≡ put out.old at s.now }
+{
+    let mut next = at;
+    let mut i: usize = 0;
+    while i < s.len() {
+        if out.len() <= next {
+            return next; // no room for the rest
+        }
+        out[next] = s[i];
+        next += 1;
+        i += 1;
+    }
+    next
+}
+
+// Puts n's decimal digits.
+pub fn put_unsigned(out: &mut [u8], at: usize, n: u64) -> usize
+    ensures { (result, out.new) ≡ put out.old at (digits_of n) }
+{
+    if n < 10 {
+        return put_bytes(out, at, &[b'0' + n as u8]);
+    }
+    let mut digits = Buffer::new();
+    put_bytes(out, at, digits.format(n).as_bytes())
+}
+
+// Puts x's, with a minus sign in front where it is negative.
+pub fn put_signed(out: &mut [u8], at: usize, x: i64) -> usize
+    ensures { (result, out.new) ≡ put out.old at (signed_digits x) }
+{
+    if x < 0 {
+        let next = put_bytes(out, at, b"-");
+        return put_unsigned(out, next, x.unsigned_abs());
+    }
+    put_unsigned(out, at, x.unsigned_abs())
 }

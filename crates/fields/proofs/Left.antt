@@ -7,6 +7,7 @@ use Rattle.std.proofs.lemmas.List.Recursion.{is_position_or_len}
 use Rattle.std.proofs.lemmas.Bool.{eqb-true, eqb-false, ltb-false, leb-true, and_parts, false≢true}
 use Rattle.std.proofs.lemmas.List.{take_all, drop-drop}
 use Rattle.decimal.specs.Read.{given, is_digit, read_unsigned, read_signed, at_most, unsigned_len, unsigned_front, sign_len, signed_len, signed_front}
+use Rattle.decimal.specs.Split.{stop_or, before}
 use Rattle.decimal.proofs.Fronts.{len_le, part_none, signed_part}
 use Rattle.fields.specs.Fields.{lengthen, fields_of, only, up_to}
 use Rattle.fields.specs.Front.{ends, line_in, field_in}
@@ -305,6 +306,12 @@ line_position : (s : List ℕ) → length (line_in true s) ≡ position_or_len (
 unfolding line_in ends
 line_position s =
     is_position_or_len (λ s. length (line_in true s)) (λ b. eqb b 10) refl (λ b s. by_test (eqb b 10) b (line_in true s)) s
+
+-- a text's first line is its front
+pub line_first : (s : List ℕ) → line_in true s ≡ take (before 10 s) s
+unfolding line_in ends before stop_or
+line_first [] = refl
+line_first (b ∷ s) = (elim (eqb b 10) as (λ t. cond t [] (b ∷ line_in true s) ≡ take (stop_or t (before 10 s)) (b ∷ s)) [ true ↦ refl | false ↦ ap (λ l. b ∷ l) (line_first s) ])
 
 -- the first newline, or the text's end
 pub line_found : (s : List ℕ) (found : Option ℕ)

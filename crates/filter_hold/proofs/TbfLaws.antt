@@ -5,7 +5,7 @@ use mathlib.Core.Bool.{Bool, true, false, cond, ◌||◌, ◌&&◌, not}
 use mathlib.Core.List.{List, [], ◌∷◌, ◌++◌, append_assoc}
 use native.Mathlib.Numerals.{add-one}
 use native.Mathlib.Omega.{arith}
-use borrow.Author.Tests.{ltb-true, ltb-false, leb-false}
+use borrow.Author.Tests.{ltb-true, ltb-false, lt-leb, leb-false}
 use lib.Dec.{leb, ltb, eqb}
 use lib.IntN.{ℤ, pos, negsuc, nat_abs}
 use lib.Signed.{lt_z}
@@ -24,7 +24,7 @@ use Rattle.std.specs.Ordering.{is_some_and, is_le, partial_ordering_then, int_cm
 use Rattle.std.proofs.lemmas.Bool.Decides.{nat_tests}
 use Rattle.laws.specs.Whole.{eq_z}
 use Rattle.laws.specs.Lists.{filter, list_any, index_of}
-use Rattle.laws.proofs.Lists.{keep_append, keep_fewer, length_keep}
+use Rattle.laws.proofs.Lists.{keep_append, keep_none, keep_fewer, length_keep, length_split}
 use Rattle.filter_hold.specs.declared.tbf.Time.{Time}
 use Rattle.filter_hold.specs.declared.tbf.Held.{Held}
 use Rattle.filter_hold.specs.Tbf.{not_after, from_zero, time_of, is_of, follows, supersede, words, written}
@@ -113,6 +113,15 @@ pub few : (k : ℕ) (l : List Held) → length l ≤ 32 → (length l == 32) ≡
 few k l h e =
     ap (λ b. not (list_any (λ x. is_of k x) l) && b) (sym (full_at (length l) h) ∙ e)
     ∙ elim (list_any (λ x. is_of k x) l) as (λ b. not b && false ≡ false) [ true ↦ refl | false ↦ refl ]
+
+-- a new instance finds all 32 places taken exactly where the others take them all
+pub full_same : (k : ℕ) (l : List Held) → length l ≤ 32 → not (list_any (λ x. is_of k x) l) && leb 32 (length l) ≡ leb 32 (length (supersede k l))
+unfolding supersede
+full_same k l h =
+    (elim (list_any (λ x. is_of k x) l) as (λ b. list_any (λ x. is_of k x) l ≡ b → not b && leb 32 (length l) ≡ leb 32 (length (filter (λ x. not (is_of k x)) l))) [
+      | true ↦ λ e. sym (lt-leb 32 (length (filter (λ x. not (is_of k x)) l)) (omega (arith, keep_fewer (λ x. is_of k x) l e)))
+      | false ↦ λ e. ap (λ n. leb 32 n) (let n : length l ≡ length (filter (λ x. not (is_of k x)) l) = omega (arith, length_split (λ x. is_of k x) l, ap length (keep_none (λ x. is_of k x) l e)) in n)
+    ]) refl
 
 -- one that isn't refused has room
 pub room : (k : ℕ) (l : List Held) → length l ≤ 32 → not (list_any (λ x. is_of k x) l) && leb 32 (length l) ≡ false → length (supersede k l) < 32

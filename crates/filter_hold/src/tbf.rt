@@ -5,7 +5,7 @@ ghost use Rattle.refusals.specs.Refusal.{answer_as};
 ghost use Rattle.filter_hold.specs.Tbf.{not_after, time_after, nothing, supersede, hold, due_at, take_due};
 ghost use Rattle.std.specs.List.{list_any, prefix_len};
 
-use arrayvec::ArrayVec;
+use fixed_list::{Blank, FixedList};
 use refusals::Refusal;
 
 // In nanoseconds.
@@ -65,6 +65,21 @@ pub struct Held {
     pub due: Time,
 }
 
+// What stands in the free places of a hold.
+impl Blank for Held {
+    ghost use Rattle.std.specs.Prelude.{pos};
+
+    ghost blank = { record { instance = 0; item = 0; due = record { sec = pos 0; nanosec = 0 } } };
+
+    fn blank() -> Held {
+        Held {
+            instance: 0,
+            item: 0,
+            due: Time { sec: 0, nanosec: 0 },
+        }
+    }
+}
+
 impl Held {
     fn is_due(&self, time: Time) -> bool
         ensures { result ≡ not_after self.now.due time }
@@ -74,9 +89,9 @@ impl Held {
 }
 
 // From nothing held: at most one sample of an instance, in the order of their instances.
-#[derive(Clone, Default, PartialEq, Eq, Debug, Drop)]
+#[derive(Clone, Copy, Default, PartialEq, Eq, Debug)]
 pub struct TbfHold {
-    pub held: ArrayVec<Held, 32>,
+    pub held: FixedList<Held, 32>,
 }
 
 impl TbfHold {
@@ -84,7 +99,7 @@ impl TbfHold {
         ensures { result.held.items ≡ nothing }
     {
         TbfHold {
-            held: ArrayVec::new(),
+            held: FixedList::new(),
         }
     }
 
@@ -174,10 +189,10 @@ impl TbfHold {
             .count()
     }
 
-    fn due_at(&self, time: Time) -> ArrayVec<Held, 32>
+    fn due_at(&self, time: Time) -> FixedList<Held, 32>
         ensures { result.items ≡ due_at time self.now.held.items }
     {
-        let mut due = ArrayVec::new();
+        let mut due = FixedList::new();
         for x in self.held.iter() {
             if x.is_due(time) {
                 due.push(*x);

@@ -14,7 +14,7 @@ use Rattle.laws.proofs.Bytes.{Bytes, number_of_lt}
 use Rattle.guids.specs.Guid.{Guid, compare_guid}
 
 -- numbers compare by their high digits first
-digits_cmp : (p a r b s : ℕ) → r < p → s < p → nat_cmp (a * p + r) (b * p + s) ≡ ordering_then (nat_cmp a b) (nat_cmp r s)
+pub digits_cmp : (p a r b s : ℕ) → r < p → s < p → nat_cmp (a * p + r) (b * p + s) ≡ ordering_then (nat_cmp a b) (nat_cmp r s)
 digits_cmp p a r b s h k = case (nat_cmp a b) (ranked a b _ refl)
   where
     x : ℕ

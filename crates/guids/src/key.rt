@@ -17,3 +17,11 @@ pub fn pack(g: [u8; 16]) -> Key
         lo: u64::from_be_bytes([i, j, k, l, m, n, o, p]),
     }
 }
+
+pub fn unpack(k: Key) -> [u8; 16]
+    ensures { result ≡ key_as k }
+{
+    let [a, b, c, d, e, f, g, h] = k.hi.to_be_bytes();
+    let [i, j, k, l, m, n, o, p] = k.lo.to_be_bytes();
+    [a, b, c, d, e, f, g, h, i, j, k, l, m, n, o, p]
+}

@@ -1,2 +1,3 @@
+mod Steps
 pub mod Spelled
 pub mod Laws

@@ -44,7 +44,7 @@ value_small b n e =
 
 -- ---- bytes put
 
-hex_more : (s : List ℕ) (i : ℕ) → i < length s
+pub hex_more : (s : List ℕ) (i : ℕ) → i < length s
     → hex_of (take i s) ++ (digit_of (get_or s i 0 / 16) ∷ digit_of (get_or s i 0 % 16) ∷ []) ≡ hex_of (take (suc i) s)
 unfolding hex_of
 hex_more [] i h = absurd (omega arith)

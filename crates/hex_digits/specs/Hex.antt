@@ -1,5 +1,5 @@
 -- Bytes as text, two hex digits each. A byte of text is in ASCII: 48 to 57 are the digits 0 to 9, 97 to 102 the digits a to f.
-use Rattle.std.specs.Prelude.{ℕ, ◌+◌, ◌-◌, ◌*◌, ◌/◌, ◌%◌, Bool, true, false, ◌&&◌, List, [], ◌∷◌, ltb, leb, length}
+use Rattle.std.specs.Prelude.{ℕ, ◌+◌, ◌-◌, ◌*◌, ◌/◌, ◌%◌, Bool, true, false, ◌&&◌, List, [], ◌∷◌, ltb, leb, eqb, length}
 use Rattle.std.specs.Prelude.{Option, None, Some}
 
 unfoldable pub digit_by : Bool → ℕ → ℕ
@@ -45,3 +45,34 @@ given false s = None
 unfoldable pub within : ℕ → Option (List ℕ) → Option (List ℕ)
 within n None = None
 within n (Some s) = given (leb (length s) n) s
+
+unfoldable pub over_by : Bool → List ℕ → List ℕ → Bool × List ℕ
+over_by true s l = (true, s)
+over_by false s l = (false, l)
+
+-- s over the list l, where there is one as long
+unfoldable pub over : Option (List ℕ) → List ℕ → Bool × List ℕ
+over None l = (false, l)
+over (Some s) l = over_by (eqb (length s) (length l)) s l
+
+-- whether the text spells as many bytes as l has, and these bytes; else l as it was
+unfoldable pub unhex_to : List ℕ → List ℕ → Bool × List ℕ
+unhex_to text l = over (unhex text) l
+
+-- ---- within the crate
+
+unfoldable pub has : Option ℕ → Bool
+has None = false
+has (Some n) = true
+
+unfoldable pub are_digits : List ℕ → Bool
+are_digits [] = true
+are_digits (b ∷ s) = has (value_of b) && are_digits s
+
+unfoldable pub half_by : Bool → ℕ → Option ℕ
+half_by true n = Some n
+half_by false n = None
+
+-- a value below 16; none of any other
+unfoldable pub half : ℕ → Option ℕ
+half n = half_by (ltb n 16) n

@@ -1,7 +1,8 @@
 // Bytes as text, two hex digits each, in lower case. The kit's crate `hex` reads digits of upper case too, which are bad here.
-ghost use Rattle.std.specs.Prelude.{◌≡◌, ◌++◌, ◌<◌, take, option_map};
-ghost use Rattle.hex_digits.specs.Hex.{digit_of, hex_of, value_of, unhex, within};
+ghost use Rattle.std.specs.Prelude.{◌≡◌, ◌++◌, take, option_map};
+ghost use Rattle.hex_digits.specs.Hex.{hex_of, unhex, within};
 
+use crate::{digit, value};
 use arrayvec::ArrayVec;
 use decimal::text::put_bytes;
 
@@ -32,23 +33,4 @@ pub fn read_hex<const N: usize>(text: &[u8]) -> Option<ArrayVec<u8, N>>
         rest = behind;
     }
     if rest.is_empty() { Some(bytes) } else { None }
-}
-
-// The digit of a value.
-fn digit(n: u8) -> u8
-    requires { n < 16 }
-    ensures { result ≡ digit_of n }
-{
-    if n < 10 { b'0' + n } else { b'a' + (n - 10) }
-}
-
-// The value of a digit.
-fn value(digit: u8) -> Option<u8>
-    ensures { result ≡ value_of digit }
-{
-    match digit {
-        b'0'..=b'9' => Some(digit - b'0'),
-        b'a'..=b'f' => Some(digit - b'a' + 10),
-        _ => None,
-    }
 }

@@ -24,7 +24,7 @@ use store::Store;
 // Seen as the definitions' state: the groups and writers known, the entries pending and held, the counts and the timeout.
 #[derive(Drop)]
 pub struct GroupOrder {
-    store: Store,
+    pub store: Store,
 }
 
 impl Model for GroupOrder {
@@ -48,6 +48,13 @@ impl GroupOrder {
         GroupOrder {
             store: Store::new(timeout),
         }
+    }
+
+    // Nothing is known or stored any more, as of a new history with the timeout in nanoseconds.
+    pub fn restart(&mut self, timeout: u64)
+        ensures { self.new ≡ fresh timeout }
+    {
+        self.store.restart(timeout)
     }
 
     // Refused 1 (a reader above 7), 2 (a ninth group), 3 (a 33rd pair of group and writer) or 4 (it would add to 256 entries stored).

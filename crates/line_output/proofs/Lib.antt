@@ -1,2 +1,3 @@
+mod AtOnce
 mod Running
 mod Writing

@@ -2,13 +2,10 @@
 use Rattle.std.proofs.Common.{◌≡◌, ℕ, ◌+◌, Bool, true, false, List, [], ◌∷◌, ◌++◌, length, take, Option, None, Some, refl, sym, ap, subst, ◌∙◌, arith, append-nil, append_assoc, true≢false, length-append}
 use Rattle.std.specs.Prelude.{◌⊎◌, ◌-◌, ◌^◌, IsSome, IsNone, flat_map}
 use Rattle.std.specs.Option.{is_some}
-use Rattle.std.specs.Borrow.{Bor, MutBor}
-use Rattle.std.specs.Fn.{Mut}
 use Rattle.std.specs.List.{FoldsTo}
 use Rattle.std.proofs.lemmas.Fn.{FoldsTo-push}
 use Rattle.std.proofs.lemmas.List.{append_cancel_left}
 use Rattle.std.proofs.Math.Seq.{take-append-add}
-use Rattle.arrayvec.specs.ArrayVec.{ArrayVec}
 use Rattle.line_input.specs.declared.Lines.{Lines}
 use Rattle.line_input.specs.Input.{NextLine}
 use Rattle.line_output.specs.declared.Output.{Output}
@@ -74,28 +71,28 @@ written_nothing None o = record { whole = λ _. tt; front = (0, tt) }
 written_nothing (Some x) o =
     record { whole = λ _. ap (λ l. x ++ l) (sym (append-nil (pending o))); front = (0, sym (append-nil x)) }
 
-texts_more : (said : List (List ℕ × List ℕ)) (x : List ℕ × List ℕ) → flat_map (λ x. x.1) (said ++ x ∷ []) ≡ flat_map (λ x. x.1) said ++ x.1
+pub texts_more : (said : List (List ℕ × List ℕ)) (x : List ℕ × List ℕ) → flat_map (λ x. x.1) (said ++ x ∷ []) ≡ flat_map (λ x. x.1) said ++ x.1
 texts_more [] x = append-nil x.1
 texts_more (y ∷ said) x = ap (λ l. y.1 ++ l) (texts_more said x) ∙ sym (append_assoc y.1 (flat_map (λ x. x.1) said) x.1)
 
 -- ---- the run so far
 
 module _
-    {F R W : Type 0} (g : Mut F (MutBor (ArrayVec ℕ) × (Bor (List ℕ) × Unit {0})) (Unit {0} × (MutBor (ArrayVec ℕ) × Unit {0})))
+    {A R W : Type 0} (answers : A → List ℕ → List ℕ → List ℕ → A → Type 0)
     (remaining : R → Option (List ℕ)) (contents : W → Option (List ℕ)) where
   -- the turns led to `out`, and what was gathered there may be written since
-  pub record Running (f₀ : F) (l₀ : Lines R) (o₀ : Output W) (n : ℕ) (f : F) (l : Lines R) (out o : Output W) : Type 0 where
+  pub record Running (a₀ : A) (l₀ : Lines R) (o₀ : Output W) (n : ℕ) (a : A) (l : Lines R) (out o : Output W) : Type 0 where
     pub said : List (List ℕ × List ℕ)
     pub count : length said ≡ n
-    pub turns : FoldsTo (Turn g remaining contents) (f₀, l₀, o₀) said (f, l, out)
+    pub turns : FoldsTo (Turn answers remaining contents) (a₀, l₀, o₀) said (a, l, out)
     pub written : Written (contents o₀.writer) (contents o.writer) (pending o₀) (flat_map (λ x. x.1) said) o
 
-  module _ {f₀ : F} {l₀ : Lines R} {o₀ : Output W} where
-    pub run_begun : Running f₀ l₀ o₀ 0 f₀ l₀ o₀ o₀
+  module _ {a₀ : A} {l₀ : Lines R} {o₀ : Output W} where
+    pub run_begun : Running a₀ l₀ o₀ 0 a₀ l₀ o₀ o₀
     run_begun = record { said = []; count = refl; turns = refl; written = written_nothing (contents o₀.writer) o₀ }
 
-    module _ {n : ℕ} {f : F} {l : Lines R} {out o : Output W} (t : Running f₀ l₀ o₀ n f l out o) where
-      pub run_flushed : (r : Output W) → Written (contents o.writer) (contents r.writer) (pending o) [] r → (IsSome o.failed → r ≡ o) → Running f₀ l₀ o₀ n f l out r
+    module _ {n : ℕ} {a : A} {l : Lines R} {out o : Output W} (t : Running a₀ l₀ o₀ n a l out o) where
+      pub run_flushed : (r : Output W) → Written (contents o.writer) (contents r.writer) (pending o) [] r → (IsSome o.failed → r ≡ o) → Running a₀ l₀ o₀ n a l out r
       run_flushed r v s =
           record {
             said = t.said;
@@ -104,21 +101,21 @@ module _
             written = written_more contents (contents o₀.writer) (pending o₀) (flat_map (λ x. x.1) t.said) o r t.written v s;
           }
 
-      pub run_turned : (x : List ℕ × List ℕ) (f' : F) (l' : Lines R) (r : Output W) → Turn g remaining contents (f, l, out) x (f', l', r)
-          → Written (contents o.writer) (contents r.writer) (pending o) x.1 r → (IsSome o.failed → r ≡ o) → Running f₀ l₀ o₀ (n + 1) f' l' r r
-      run_turned x f' l' r turn v s =
+      pub run_turned : (x : List ℕ × List ℕ) (a' : A) (l' : Lines R) (r : Output W) → Turn answers remaining contents (a, l, out) x (a', l', r)
+          → Written (contents o.writer) (contents r.writer) (pending o) x.1 r → (IsSome o.failed → r ≡ o) → Running a₀ l₀ o₀ (n + 1) a' l' r r
+      run_turned x a' l' r turn v s =
           record {
             said = t.said ++ x ∷ [];
             count = omega (arith, t.count, length-append t.said (x ∷ []));
             turns =
-                FoldsTo-push (Turn g remaining contents) (f₀, l₀, o₀) t.said (f, l, out) x (f', l', r) t.turns turn;
+                FoldsTo-push (Turn answers remaining contents) (a₀, l₀, o₀) t.said (a, l, out) x (a', l', r) t.turns turn;
             written =
                 subst (λ y. Written (contents o₀.writer) (contents r.writer) (pending o₀) y r) (sym (texts_more t.said x))
                 (written_on contents (contents o₀.writer) (pending o₀) (flat_map (λ x. x.1) t.said) x.1 o r t.written v s);
           }
 
       pub run_ended : (l' : Lines R) (r : Output W) → Written (contents o.writer) (contents r.writer) (pending o) [] r → Flushed o r
-          → (IsNone o.failed → (n ≡ 2 ^ 64 - 1) ⊎ NextLine remaining l None l') → Answered g remaining contents f₀ l₀ o₀ l' r
+          → (IsNone o.failed → (n ≡ 2 ^ 64 - 1) ⊎ NextLine remaining l None l') → Answered answers remaining contents a₀ l₀ o₀ a l' r
       run_ended l' r v s e =
           let back : IsNone r.failed → IsNone o.failed = λ h.
           (elim (is_some o.failed) as (λ x. is_some o.failed ≡ x → IsNone o.failed) [
@@ -127,7 +124,6 @@ module _
           ]) refl in
           record {
             said = t.said;
-            last = f;
             at = l;
             out = out;
             turns = t.turns;

@@ -4,6 +4,7 @@
 #![tactic(auto)]
 
 pub mod answers;
+pub mod at_once;
 mod pieces;
 
 use crate::pieces::write_out;

@@ -11,7 +11,7 @@ use Rattle.rules.specs.declared.state.Group.{Group}
 use Rattle.rules.specs.Entry.{is_sample}
 use Rattle.rules.specs.Page.{Page, counted, in_row, at_row, row_of, start_rows, empty_row, read_entry, read_all}
 use Rattle.rules.specs.Page as P
-use Rattle.page.specs.Rows.{row_as, rows_as, FewIn, Few, ReadRows}
+use Rattle.page.specs.Rows.{row_as, rows_as, FewIn, Few, ReadRows, ReadCount}
 use Rattle.page.specs.declared.row.Row.{Row}
 
 -- ---- the place of a group
@@ -101,6 +101,14 @@ module _ (b : Bool) (gs : List Group) where
   unfolding read_all
   read_append [] fs p = refl
   read_append (e ∷ es) fs p = read_append es fs (read_entry b gs e p)
+
+  count_all : (es : List (Entry ℕ)) (p : Page) → (read_all b gs es p).read ≡ p.read + length es
+  unfolding read_all read_entry
+  count_all [] p = omega arith
+  count_all (e ∷ es) p = let ih = count_all es (read_entry b gs e p) in omega (arith, ih)
+
+  pub read_count : (es : List (Entry ℕ)) (n : ℕ) → n ≡ length es → ReadCount b gs es n
+  read_count es n h p = count_all es p ∙ ap (λ k. p.read + k) (sym h)
 
   pub read_none : (l : List (Option Row)) → ReadRows b gs [] l l
   unfolding read_all

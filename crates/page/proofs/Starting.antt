@@ -1,6 +1,6 @@
 -- The rows before any entry is read.
-use Rattle.std.proofs.Common.{◌≡◌, ℕ, zero, suc, ◌+◌, ◌-◌, ◌*◌, ◌<◌, ◌≤◌, List, [], ◌∷◌, ◌++◌, length, set, replicate, Some, None, refl, sym, ap, ap₂, ◌∙◌, arith, append_assoc, le_of_suc-le-suc, option_map}
-use Rattle.std.proofs.lemmas.List.{set_at, length-replicate, replicate-append-replicate}
+use Rattle.std.proofs.Common.{◌≡◌, ℕ, zero, suc, ◌+◌, ◌-◌, ◌*◌, ◌≤◌, List, [], ◌∷◌, ◌++◌, length, replicate, Some, None, refl, sym, ap, ap₂, ◌∙◌, arith, append_assoc, le_of_suc-le-suc, option_map}
+use Rattle.std.proofs.lemmas.List.{replicate-append-replicate}
 use Rattle.std.specs.Prelude.{Option}
 use Rattle.rules.specs.declared.state.Group.{Group}
 use Rattle.rules.specs.Page.{start_rows, empty_row}

@@ -2,10 +2,11 @@
 use Prim.Native.Nat.{ℕ, zero, suc}
 use mathlib.Core.Path.{◌≡◌, refl, sym, ap, ◌∙◌}
 use mathlib.Core.Bool.{Bool, true, false, cond}
-use mathlib.Core.List.{List, [], ◌∷◌, map}
+use mathlib.Core.List.{List, [], ◌∷◌, ◌++◌, map}
 use Rattle.std.specs.Prelude.{Option, Some, None}
 use native.Mathlib.Omega.{arith}
 use lib.Dec.{eqb}
+use lib.ListN.{length}
 use borrow.Author.Tests.{ne_eqb}
 use Rattle.laws.specs.Lists.{filter}
 use Rattle.rules.specs.Entry.{is_sample}
@@ -13,6 +14,7 @@ use Rattle.rules.specs.declared.entry.Entry.{Entry}
 use Rattle.rules.specs.declared.state.Group.{Group}
 use Rattle.rules.specs.Page.{Page, counted, in_row, at_row, row_of, read_entry, read_all}
 use Rattle.rules.specs.Page as G
+use Rattle.rules.proofs.Page.{at_length}
 use Rattle.rules.proofs.PageRow.{older_swap}
 use Rattle.page.specs.Walk.{Row, staged, of_stage, walk}
 
@@ -63,3 +65,27 @@ module _ (gs : List Group) where
       at_stage (suc (suc k)) h =
           let put : Bool → Bool → Page = λ a b. read_all false gs (map (λ r. r.entry) (cond a (x ∷ filter (λ r. eqb r.stage 1) l) (filter (λ r. eqb r.stage 1) l))) (read_all true gs (map (λ r. r.entry) (cond b (x ∷ filter (λ r. eqb r.stage 0) l) (filter (λ r. eqb r.stage 0) l))) p) in
           sym (ap (λ a. put a (eqb (suc (suc k)) 0)) (ne_eqb (suc (suc k)) 1 (λ z. omega (arith, z))) ∙ ap (λ b. put false b) (ne_eqb (suc (suc k)) 0 (λ z. omega (arith, z))))
+
+-- ---- laws of the walk that no proof here cites
+
+module _ (gs : List Group) where
+  -- one row more
+  pub walk_more : (l : List Row) (x : Row) (p : Page) → walk gs (l ++ (x ∷ [])) p ≡ of_stage x.stage gs x.entry (walk gs l p)
+  unfolding walk
+  walk_more [] x p = refl
+  walk_more (y ∷ l) x p = walk_more l x (of_stage y.stage gs y.entry p)
+
+  read_length : (b : Bool) (e : Entry ℕ) (p : Page) → length (read_entry b gs e p).rows ≡ length p.rows
+  unfolding read_entry
+  read_length b e p = elim (is_sample e) as (λ c. length (cond c (at_row (row_of gs e) (counted b e.time) p.rows) p.rows) ≡ length p.rows) [ true ↦ at_length (row_of gs e) (counted b e.time) p.rows | false ↦ refl ]
+
+  stage_length : (k : ℕ) (e : Entry ℕ) (p : Page) → length (of_stage k gs e p).rows ≡ length p.rows
+  stage_length zero e p = read_length true e p
+  stage_length (suc zero) e p = read_length false e p
+  stage_length (suc (suc k)) e p = refl
+
+  -- as many rows as before
+  pub walk_length : (l : List Row) (p : Page) → length (walk gs l p).rows ≡ length p.rows
+  unfolding walk
+  walk_length [] p = refl
+  walk_length (x ∷ l) p = walk_length l (of_stage x.stage gs x.entry p) ∙ stage_length x.stage x.entry p

@@ -1,5 +1,5 @@
 -- The rows of the code, and how many samples each counts.
-use Rattle.std.specs.Prelude.{ℕ, ◌≡◌, ◌≤◌, Bool, List, [], ◌∷◌, map, Option, Some, None, option_map}
+use Rattle.std.specs.Prelude.{ℕ, ◌≡◌, ◌+◌, ◌≤◌, Bool, List, [], ◌∷◌, map, Option, Some, None, option_map}
 use Rattle.rules.specs.declared.entry.Entry.{Entry}
 use Rattle.rules.specs.declared.state.Group.{Group}
 use Rattle.rules.specs.Page.{Page, read_all}
@@ -25,3 +25,7 @@ Few n (o ∷ l) = FewIn n o × Few n l
 -- the rows after the entries are read, whatever was read before
 abbrev pub ReadRows : Bool → List Group → List (Entry ℕ) → List (Option Row) → List (Option Row) → Type 0
 ReadRows b gs es l m = (p : Page) → p.rows ≡ rows_as l → rows_as m ≡ (read_all b gs es p).rows
+
+-- so many entries are read, whatever was read before
+abbrev pub ReadCount : Bool → List Group → List (Entry ℕ) → ℕ → Type 0
+ReadCount b gs es n = (p : Page) → (read_all b gs es p).read ≡ p.read + n

@@ -1,12 +1,12 @@
 // The page: one walk over the stored entries.
-ghost use Rattle.std.specs.Prelude.{◌≡◌, ◌*◌, ◌≤◌, [], ◌∷◌, length, drop, slice_get};
+ghost use Rattle.std.specs.Prelude.{◌≡◌, ◌+◌, ◌*◌, ◌≤◌, [], ◌∷◌, length, drop, slice_get};
 ghost use Rattle.std.specs.Option.{option_flatten};
 ghost use Rattle.refusals.specs.Refusal.{answer_as};
 ghost use Rattle.laws.specs.Lists.{index_of};
 ghost use Rattle.rules.specs.State.{is_group};
 ghost use Rattle.rules.specs.Page.{row_of, start_rows, page_of};
 ghost use Rattle.store.specs.Store.{state_of};
-ghost use Rattle.page.specs.Rows.{rows_as, Few, ReadRows};
+ghost use Rattle.page.specs.Rows.{rows_as, Few, ReadRows, ReadCount};
 ghost use Rattle.page.specs.Words.{listed, page_to};
 
 use crate::row::{Row, words_of};
@@ -64,24 +64,31 @@ fn read_entry(page: &mut Page, store: &Store, e: &Entry<u32>, pending: bool)
     }
 }
 
-fn read_all(page: &mut Page, store: &Store, entries: &[Entry<u32>], pending: bool)
+// Answers how many entries it read.
+fn read_all(page: &mut Page, store: &Store, entries: &[Entry<u32>], pending: bool) -> usize
     requires few { Few 256 (rows_as page.old) }
     requires count { length entries.now ≤ 256 }
-    ensures { ReadRows pending (state_of store.now).groups entries.now page.old page.new }
+    ensures rows { ReadRows pending (state_of store.now).groups entries.now page.old page.new }
+    ensures read { ReadCount pending (state_of store.now).groups entries.now result }
+    ensures few { result ≤ 256 }
 {
+    let mut read = 0;
     for e in entries {
         read_entry(page, store, e, pending);
+        read += 1;
     }
+    read
 }
 
-// The pending entries are read, then the held ones.
-fn page_of(store: &Store) -> Page
-    ensures { rows_as result ≡ (page_of (state_of store.now)).rows }
+// The pending entries are read, then the held ones: the rows, and how many entries were read.
+fn page_of(store: &Store) -> (Page, usize)
+    ensures rows { rows_as result.0 ≡ (page_of (state_of store.now)).rows }
+    ensures read { result.1 ≡ (page_of (state_of store.now)).read }
 {
     let mut page = start_page(store);
-    read_all(&mut page, store, &store.pending, true);
-    read_all(&mut page, store, &store.sets.held, false);
-    page
+    let pending = read_all(&mut page, store, &store.pending, true);
+    let held = read_all(&mut page, store, &store.sets.held, false);
+    (page, pending + held)
 }
 
 // The rows' words stand at the list's beginning.
@@ -104,8 +111,7 @@ pub fn fill_page(store: &Store, rows: &mut [u64]) -> Result<usize, Refusal>
     if short {
         return Err(Refusal::ListTooShort);
     }
-    write(&page_of(store), rows);
-    let pending = store.pending.len();
-    let held = store.sets.held.len();
-    Ok(pending + held)
+    let (page, read) = page_of(store);
+    write(&page, rows);
+    Ok(read)
 }

@@ -12,8 +12,8 @@ use decimal::text::{put_bytes, put_unsigned};
 use fields::line::Fields;
 use history::order::GroupOrder;
 use line_input::Lines;
-use line_output::Output;
-use line_output::answers::{Text, answer_lines};
+use line_output::answers::{Answer, Text};
+use line_output::at_once::answer_at_once;
 use refusals::Refusal;
 use std::io;
 
@@ -59,14 +59,25 @@ fn answer_line(calls: &mut Calls, words: &mut [u64; 260], line: &[u8], text: &mu
     put_bytes(text, b"\n");
 }
 
+// The calls, and the list for the pages.
+#[derive(Drop)]
+struct Replay {
+    calls: Calls,
+    words: [u64; 260],
+}
+
+impl Answer for Replay {
+    fn answer(&mut self, text: &mut Text, line: &[u8]) {
+        answer_line(&mut self.calls, &mut self.words, line, text);
+    }
+}
+
 // No good line has more than 129 bytes, so one that is cut to fit is bad, as it was.
 fn main(rt: HostRuntime) -> io::Result<()> {
-    let mut calls = Calls::new(GroupOrder::GROUP_TIMEOUT);
-    let mut words = [9u64; 260];
+    let mut replay = Replay {
+        calls: Calls::new(GroupOrder::GROUP_TIMEOUT),
+        words: [9; 260],
+    };
     let mut lines = Lines::new(rt.stdin());
-    let mut output = Output::new(rt.stdout());
-    answer_lines(&mut lines, &mut output, |text, line| {
-        answer_line(&mut calls, &mut words, line, text);
-    });
-    output.into_result()
+    answer_at_once(&mut lines, &mut io::writer(&rt), &mut replay)
 }

@@ -1,7 +1,7 @@
 -- Walks over numbers, over a list of pairs and over entries, in one order and another.
 use Rattle.std.proofs.Common.{◌≡◌, ℕ, zero, suc, ◌+◌, ◌-◌, ◌≤◌, min, Bool, true, false, ◌&&◌, ◌||◌, not, cond, eqb, leb, List, [], ◌∷◌, Some, None, refl, sym, ap, ap₂, ◌∙◌, arith}
 use borrow.Author.Tests.{eq-eqb, ne_eqb, le-leb, lt-leb, leb-true, leb-false}
-use Rattle.laws.specs.Lists.{list_all, list_any}
+use Rattle.laws.specs.Lists.{filter, list_all, list_any}
 use Rattle.laws.proofs.Lists.{all_always, or_true_right}
 use Rattle.guids.specs.Guid.{Guid, same_guid}
 use Rattle.rules.specs.declared.entry.Entry.{Entry}
@@ -34,6 +34,13 @@ from_both a (suc k) p q = ap (λ t. (p a && q a) && t) (from_both (suc a) k p q)
 pub from_all : {A : Type 0} (a k : ℕ) (p : A → ℕ → Bool) (l : List A) → all_from a k (λ n. list_all (λ x. p x n) l) ≡ list_all (λ x. all_from a k (λ n. p x n)) l
 from_all a k p [] = from_always a k
 from_all a k p (x ∷ l) = from_both a k (λ n. p x n) (λ n. list_all (λ y. p y n) l) ∙ ap (λ t. all_from a k (λ n. p x n) && t) (from_all a k p l)
+
+-- all of those that a test picks pass: each is not picked or passes
+pub all_of : {A : Type 0} (p q : A → Bool) (l : List A) → list_all (λ x. not (p x) || q x) l ≡ list_all q (filter p l)
+all_of p q [] = refl
+all_of p q (x ∷ l) =
+    ap (λ t. (not (p x) || q x) && t) (all_of p q l)
+    ∙ (elim (p x) as (λ b. (not b || q x) && list_all q (filter p l) ≡ list_all q (cond b (x ∷ filter p l) (filter p l))) [ true ↦ refl | false ↦ refl ])
 
 -- from the number behind c, where no number is above the highest
 pub from_next : (c n top : ℕ) (p : ℕ → Bool) → n ≤ top → all_from (min (c + 1) top) (n - min (c + 1) top) p ≡ all_from (suc c) (n - suc c) p

@@ -1,11 +1,13 @@
 // Which numbers a counted pair is past.
 ghost use Rattle.std.specs.Prelude.{◌≡◌, ◌-◌, suc, get_or};
 ghost use Rattle.std.specs.Option.{option_copied};
-ghost use Rattle.laws.specs.Lists.{list_all};
+ghost use Rattle.laws.specs.Lists.{filter, list_all};
+ghost use Rattle.guids.specs.Guid.{same_guid};
 ghost use Rattle.rules.specs.State.{writer_of};
 ghost use Rattle.rules.specs.Commit.{pair_past, all_from};
 ghost use Rattle.rules.specs.GroupTurn.{turn_as};
 
+use guids::guid::same;
 use rules::number::Marks;
 use rules::state::Writer;
 use rules::turn::GroupTurn;
@@ -68,4 +70,13 @@ pub(crate) fn all_past(turn: &GroupTurn<'_>, committed: u64, number: u64) -> boo
     turn.counted
         .iter()
         .all(|p| is_past_all(turn, p, from, number))
+}
+
+// The same of rows of all groups: those of the group are asked.
+pub(crate) fn own_past(turn: &GroupTurn<'_>, counted: &[Pair], committed: u64, number: u64) -> bool
+    ensures { result ≡ all_from (suc committed) (number - suc committed) (λ n. list_all (λ p. pair_past (turn_as turn.now) p.writer p.reader n) (filter (λ p. same_guid turn.now.group.guid p.group) counted.now)) }
+{
+    let group = turn.group.guid;
+    let from = committed.saturating_add(1);
+    counted.iter().all(|p| !same(group, p.group) || is_past_all(turn, p, from, number))
 }

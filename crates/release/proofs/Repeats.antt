@@ -114,6 +114,3 @@ module _ (t : GroupTurn) (ps : Entries) (s : Sets) (o : List ℕ) where
   reaches_all i r u p e x w a b c =
       let n : i ≡ enough w = omega (arith, ap length a, ap length c.held) in
       subst (λ m. Ended t ps r u p (rounds m (turn_as t) w)) n (x w a b c)
-
-  pub stuck_released : ((w : Work ℕ) → w.pending ≡ ps → w.held ≡ s.held.items → w.committed ≡ t.group.committed → round (turn_as t) w ≡ None) → GroupReleased t ps s o None s o
-  stuck_released f = reaches_stop 0 None s o s o reaches_none (λ v x. (f v x.pending (sym x.carries.held) x.committed, x))

@@ -8,6 +8,7 @@ ghost use Rattle.rules.specs.Release.{Work, round, skip, waits, finish};
 ghost use Rattle.rules.specs.GroupTurn.{turn_as};
 ghost use Rattle.sets.specs.Works.{Goes};
 ghost use Rattle.ready.specs.Places.{entries_at};
+ghost use Rattle.ready.specs.Own.{turn_for};
 ghost use Rattle.release.specs.Order.{by_number, AllBelow};
 ghost use Rattle.release.specs.GroupReleased.{Ended, GroupReleased};
 ghost use Rattle.release.specs.Progress.{Stands, Repeated};
@@ -18,10 +19,11 @@ use crate::commit::{Memory, commit_all};
 use crate::order::in_order;
 use arrayvec::ArrayVec;
 use guids::guid::same;
-use ready::{copies_arrived, is_passable};
+use ready::{copies_arrived, is_passable, is_passable_for};
 use rules::entry::Entry;
 use rules::state::ReleaseCounts;
 use rules::turn::GroupTurn;
+use rules::view::Pair;
 use sets::Sets;
 
 // Where the release of a group stands between its repetitions: the places of its entries that are still pending, in the order of their
@@ -51,9 +53,15 @@ fn first_of(pending: &[Entry<u32>], group: [u8; 16]) -> Option<&Entry<u32>>
 }
 
 // No set of the group is ended, and the lowest pending number is neither the next one nor are those before it ruled out, and its first entry
-// waited less than the timeout; or nothing is pending: the first repetition would stop.
-fn is_stuck(turn: &GroupTurn<'_>, pending: &[Entry<u32>], sets: &Sets) -> bool
-    ensures { (w : Work ℕ) → w.pending ≡ pending.now → w.held ≡ sets.now.held.items → w.committed ≡ turn.now.group.committed → result ≡ true → round (turn_as turn.now) w ≡ None }
+// waited less than the timeout; or nothing is pending: the first repetition would stop. Asked before the group's rows are gathered: of the
+// counted rows of all groups its own are asked, and only if the number is announced.
+pub(crate) fn is_stuck(
+    turn: &GroupTurn<'_>,
+    counted: &[Pair],
+    pending: &[Entry<u32>],
+    sets: &Sets,
+) -> bool
+    ensures { (w : Work ℕ) → w.pending ≡ pending.now → w.held ≡ sets.now.held.items → w.committed ≡ turn.now.group.committed → result ≡ true → round (turn_for counted.now turn.now) w ≡ None }
 {
     let guid = turn.group.guid;
     if sets.lowest_ended(guid).is_some() {
@@ -61,7 +69,7 @@ fn is_stuck(turn: &GroupTurn<'_>, pending: &[Entry<u32>], sets: &Sets) -> bool
     }
     match first_of(pending, guid) {
         Some(e) => turn.is_young(Some(e.time))
-            && !is_passable(turn, turn.group.committed, e.number),
+            && !is_passable_for(turn, counted, turn.group.committed, e.number),
         None => true,
     }
 }
@@ -203,9 +211,6 @@ pub(crate) fn release_group(
     ensures room { array_vec_len sets.new.held + array_vec_len out.new + length (left turn.now.group.guid result pending.now.items) ≤ array_vec_len sets.old.held + array_vec_len out.old + array_vec_len pending.now }
 {
     let entries = pending.as_slice();
-    if is_stuck(turn, entries, sets) {
-        return None;
-    }
     let places = in_order(pending, turn.group.guid);
     let mut at = Progress {
         rest: places.as_slice(),

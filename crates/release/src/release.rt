@@ -1,17 +1,18 @@
 // Release, on lists of counted rows and digest rows.
-ghost use Rattle.std.specs.Prelude.{◌≡◌, ◌+◌, ◌<◌, ◌≤◌, ◌&&◌, not, ltb, eqb, length};
+ghost use Rattle.std.specs.Prelude.{◌≡◌, ◌+◌, ◌<◌, ◌≤◌, ◌&&◌, not, ltb, eqb, length, true, ℕ, List};
 ghost use Rattle.arrayvec.specs.ArrayVec.{array_vec_len};
 ghost use Rattle.laws.specs.Answer.{Kept};
 ghost use Rattle.laws.specs.Lists.{list_any};
 ghost use Rattle.guids.specs.Guid.{same_guid};
 ghost use Rattle.refusals.specs.Refusal.{answer_as};
 ghost use Rattle.rules.specs.Release.{malformed};
+ghost use Rattle.rules.specs.declared.view.Pair.{Pair};
 ghost use Rattle.store.specs.Store.{state_of};
 ghost use Rattle.release.specs.Released.{release_to, view_of};
-ghost use Rattle.release.specs.GroupSteps.{Steps};
+ghost use Rattle.release.specs.GroupSteps.{Steps, OwnRows};
 
-use crate::group::release_group;
-use crate::rows::rows_of;
+use crate::group::{is_stuck, release_group};
+use crate::rows::{are_own, rows_of};
 use arrayvec::ArrayVec;
 use guids::guid::same;
 use readings::sample_count;
@@ -83,7 +84,23 @@ pub fn release(
     Ok(places.len())
 }
 
-// The release of the group at place i.
+// The release of the group at place i would stop at once: asked before its rows are gathered.
+fn stops_at(store: &Store, i: usize, counted: &[Pair], digests: &[DigestRow], time: u64) -> bool
+    requires { i < array_vec_len store.now.groups }
+    ensures { (out : List ℕ) → result ≡ true → Steps (view_of counted.now digests.now) time i store.now out store.now out }
+{
+    let turn = GroupTurn {
+        group: store.groups.as_slice()[i],
+        writers: store.writers.as_slice(),
+        counted: &[],
+        digests,
+        time,
+        timeout: store.timeout,
+    };
+    is_stuck(&turn, counted, store.pending.as_slice(), &store.sets)
+}
+
+// The release of the group at place i: where it would stop at once, or where all rows are its own, they are not gathered.
 fn release_at(
     store: &mut Store,
     i: usize,
@@ -98,12 +115,56 @@ fn release_at(
     ensures steps { Steps (view_of counted.now digests.now) time i store.old out.old.items store.new out.new.items }
     ensures room { array_vec_len store.new.sets.held + array_vec_len out.new + array_vec_len store.new.pending ≤ array_vec_len store.old.sets.held + array_vec_len out.old + array_vec_len store.old.pending }
 {
+    if stops_at(store, i, counted, digests, time) {
+        return;
+    }
+    let guid = store.groups.as_slice()[i].guid;
+    if are_own(counted, guid) {
+        release_own(store, i, counted, digests, time, out);
+    } else {
+        release_gathered(store, i, counted, digests, time, out);
+    }
+}
+
+// The same on the group's rows, gathered from those of all groups. A function of its own, since a call sets its whole list of rows to zero.
+fn release_gathered(
+    store: &mut Store,
+    i: usize,
+    counted: &[Pair],
+    digests: &[DigestRow],
+    time: u64,
+    out: &mut ArrayVec<u64, 256>,
+)
+    requires within { i < array_vec_len store.old.groups }
+    requires counted { length counted.now ≤ 256 }
+    requires room { array_vec_len store.old.sets.held + array_vec_len out.old + array_vec_len store.old.pending ≤ 256 }
+    ensures steps { Steps (view_of counted.now digests.now) time i store.old out.old.items store.new out.new.items }
+    ensures room { array_vec_len store.new.sets.held + array_vec_len out.new + array_vec_len store.new.pending ≤ array_vec_len store.old.sets.held + array_vec_len out.old + array_vec_len store.old.pending }
+{
+    let guid = store.groups.as_slice()[i].guid;
+    let rows = rows_of(counted, guid);
+    release_own(store, i, rows.as_slice(), digests, time, out);
+}
+
+// The same on the group's own rows.
+fn release_own(
+    store: &mut Store,
+    i: usize,
+    rows: &[Pair],
+    digests: &[DigestRow],
+    time: u64,
+    out: &mut ArrayVec<u64, 256>,
+)
+    requires within { i < array_vec_len store.old.groups }
+    requires room { array_vec_len store.old.sets.held + array_vec_len out.old + array_vec_len store.old.pending ≤ 256 }
+    ensures steps { (counted : List Pair) → OwnRows i store.old counted rows.now → Steps (view_of counted digests.now) time i store.old out.old.items store.new out.new.items }
+    ensures room { array_vec_len store.new.sets.held + array_vec_len out.new + array_vec_len store.new.pending ≤ array_vec_len store.old.sets.held + array_vec_len out.old + array_vec_len store.old.pending }
+{
     let group = store.groups.as_slice()[i];
-    let rows = rows_of(counted, group.guid);
     let turn = GroupTurn {
         group,
         writers: store.writers.as_slice(),
-        counted: rows.as_slice(),
+        counted: rows,
         digests,
         time,
         timeout: store.timeout,

@@ -1,6 +1,6 @@
 // The counted rows of a group.
-ghost use Rattle.std.specs.Prelude.{◌≡◌, ◌≤◌, length};
-ghost use Rattle.laws.specs.Lists.{filter, list_any};
+ghost use Rattle.std.specs.Prelude.{◌≡◌, ◌≤◌, true, length};
+ghost use Rattle.laws.specs.Lists.{filter, list_all, list_any};
 ghost use Rattle.guids.specs.Guid.{same_guid};
 ghost use Rattle.release.specs.Rows.{SameRows, same_row};
 
@@ -15,20 +15,42 @@ fn is_same_row(a: &Pair, b: &Pair) -> bool
     a.reader == b.reader && same(a.writer, b.writer) && same(a.group, b.group)
 }
 
-fn has_row(rows: &[Pair], p: &Pair) -> bool
-    ensures { result ≡ list_any (λ r. same_row r p.now) rows.now }
-{
-    rows.iter().any(|r| is_same_row(r, p))
+// One stands twice, one behind the other.
+fn has_twins(rows: &[Pair]) -> bool {
+    rows.iter()
+        .zip(rows.iter().skip(1))
+        .any(|(a, b)| is_same_row(a, b))
 }
 
-// Each once, so that a row that stands several times costs nothing where each row is asked.
+fn are_of(rows: &[Pair], group: [u8; 16]) -> bool
+    ensures { result ≡ list_all (λ p. same_guid group p.group) rows.now }
+{
+    rows.iter().all(|p| same(group, p.group))
+}
+
+// All are the group's, and none stands twice, one behind the other.
+pub(crate) fn are_own(counted: &[Pair], group: [u8; 16]) -> bool
+    ensures { result ≡ true → list_all (λ p. same_guid group p.group) counted.now ≡ true }
+{
+    are_of(counted, group) && !has_twins(counted)
+}
+
+// The last one is the same.
+fn ends_with(rows: &[Pair], p: &Pair) -> bool
+    ensures { result ≡ true → list_any (λ r. same_row r p.now) rows.now ≡ true }
+{
+    rows.last().is_some_and(|r| is_same_row(r, p))
+}
+
+// Each once of those that stand one behind the other, so that a row given over and over costs nothing where each row is asked, and gathering
+// the rows no more than a walk.
 pub(crate) fn rows_of(counted: &[Pair], group: [u8; 16]) -> ArrayVec<Pair, 256>
     requires { length counted.now ≤ 256 }
     ensures { SameRows (filter (λ p. same_guid group p.group) counted.now) result.items }
 {
     let mut rows = ArrayVec::new();
     for p in counted {
-        if same(group, p.group) && !has_row(rows.as_slice(), p) {
+        if same(group, p.group) && !ends_with(rows.as_slice(), p) {
             rows.push(*p);
         }
     }

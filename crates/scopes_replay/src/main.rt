@@ -24,8 +24,8 @@ use decimal::text::{put_bytes, put_signed, put_unsigned};
 use fields::line::Fields;
 use hex_digits::text::{put_hex, read_hex};
 use line_input::Lines;
-use line_output::Output;
-use line_output::answers::{Text, answer_lines};
+use line_output::answers::{Answer, Text};
+use line_output::at_once::answer_at_once;
 use refusals::Refusal;
 use std::io;
 
@@ -145,11 +145,13 @@ fn run_line(scopes: &mut Scopes, line: &[u8], text: &mut Text) -> Option<()> {
     }
 }
 
-fn answer_line(scopes: &mut Scopes, line: &[u8], text: &mut Text) {
-    if run_line(scopes, line, text).is_none() {
-        put_bytes(text, b"bad");
+impl Answer for Scopes {
+    fn answer(&mut self, text: &mut Text, line: &[u8]) {
+        if run_line(self, line, text).is_none() {
+            put_bytes(text, b"bad");
+        }
+        put_bytes(text, b"\n");
     }
-    put_bytes(text, b"\n");
 }
 
 // A line has room for every good line, but for a `D` of more than 127 bytes, which is refused as one of 127 is.
@@ -159,9 +161,5 @@ fn main(rt: HostRuntime) -> io::Result<()> {
         access: GroupAccessScope::new(),
     };
     let mut lines = Lines::new(rt.stdin());
-    let mut output = Output::new(rt.stdout());
-    answer_lines(&mut lines, &mut output, |text, line| {
-        answer_line(&mut scopes, line, text);
-    });
-    output.into_result()
+    answer_at_once(&mut lines, &mut io::writer(&rt), &mut scopes)
 }

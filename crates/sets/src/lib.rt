@@ -68,6 +68,16 @@ impl Sets {
         }
     }
 
+    // No set is open any more, and the counts are 0 again.
+    #[tactic(auto, unfolding(rules::specs::State::no_counts))]
+    pub fn clear(&mut self)
+        ensures held { self.new.held.items ≡ [] }
+        ensures counts { self.new.counts ≡ no_counts }
+    {
+        self.held.clear();
+        self.counts = ReleaseCounts::default();
+    }
+
     // The ended set of the group with the lowest set number.
     pub fn lowest_ended(&self, group: [u8; 16]) -> Option<i64>
         ensures { result ≡ lowest_ended group self.now.held.items }

@@ -2,6 +2,7 @@
 ghost use Rattle.std.specs.Prelude.{◌≡◌, ◌*◌, ◌<◌};
 ghost use Rattle.refusals.specs.Refusal.{answer_as};
 ghost use Rattle.settings.specs.Durations.{durations, separation_from};
+ghost use Rattle.settings.specs.Refused.{FifteenIs};
 
 use crate::setting::Setting;
 use filter_hold::tbf::Separation;
@@ -18,7 +19,8 @@ pub struct Durations {
 impl Setting {
     // Refused, as packing is, where a value is too wide for its field.
     pub fn durations(self) -> Result<Durations, Refusal>
-        ensures { answer_as result ≡ durations self }
+        ensures is { answer_as result ≡ durations self }
+        ensures why { FifteenIs Refusal.TooWide result }
     {
         if !self.fits() {
             return Err(Refusal::TooWide);

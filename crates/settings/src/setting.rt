@@ -3,8 +3,10 @@ ghost use Rattle.std.specs.Prelude.{◌≡◌, true, ◌+◌, ◌*◌, ◌<◌, 
 ghost use Rattle.laws.specs.Bytes.{number_of};
 ghost use Rattle.refusals.specs.Refusal.{answer_as};
 ghost use Rattle.settings.specs.Layout.{joined, shared, size};
+ghost use Rattle.settings.specs.Refused.{FifteenIs};
 ghost use Rattle.settings.specs.Setting.{value_of, version_of, fits, pack, setting_in, good_length};
 
+use fixed_list::Blank;
 use refusals::Refusal;
 
 // A setting's values: timeout in units of 10 ms, marks of readers, separation in ms, lifespan in seconds.
@@ -18,10 +20,28 @@ pub struct Setting {
     pub lifespan: Option<u64>,
 }
 
+// What stands in the free places of a store.
+impl Blank for Setting {
+    ghost use Rattle.std.specs.Prelude.{None};
+
+    ghost blank = { record { timeout = 0; coherent = 0; ordered = 0; separation = 0; lifespan = None } };
+
+    fn blank() -> Setting {
+        Setting {
+            timeout: 0,
+            coherent: 0,
+            ordered: 0,
+            separation: 0,
+            lifespan: None,
+        }
+    }
+}
+
 impl Setting {
     // Writes the packed bytes from the list's start, version 2 with a lifespan, else 1, and answers how many.
     pub fn pack(self, out: &mut [u8]) -> Result<usize, Refusal>
-        ensures { (answer_as result, out.new) ≡ pack self out.old }
+        ensures is { (answer_as result, out.new) ≡ pack self out.old }
+        ensures why { FifteenIs Refusal.TooWide result }
     {
         if !self.fits() {
             return Err(Refusal::TooWide);

@@ -1,17 +1,18 @@
 // The last eight settings saved, read by age.
 ghost use Rattle.std.specs.Prelude.{◌≡◌};
 ghost use Rattle.refusals.specs.Refusal.{answer_as};
+ghost use Rattle.settings.specs.Refused.{FifteenIs};
 ghost use Rattle.settings.specs.Store.{nothing, save, read_at};
 
 use crate::setting::{Setting, good_length, setting_in};
-use arrayvec::ArrayVec;
+use fixed_list::FixedList;
 use refusals::Refusal;
 use std::marker::Model;
 
 // The newest first.
-#[derive(Drop)]
+#[derive(Clone, Copy)]
 pub struct SettingStore {
-    kept: ArrayVec<Setting, 8>,
+    kept: FixedList<Setting, 8>,
 }
 
 impl Model for SettingStore {
@@ -21,6 +22,8 @@ impl Model for SettingStore {
     ghost Value = { List Setting };
 
     ghost view = { λ s. s.kept.items };
+
+    ghost inverse = { λ l. record { kept = record { items = l } } };
 }
 
 impl SettingStore {
@@ -28,13 +31,14 @@ impl SettingStore {
         ensures { result ≡ nothing }
     {
         SettingStore {
-            kept: ArrayVec::new(),
+            kept: FixedList::new(),
         }
     }
 
     // Keeps the values of packed bytes as the newest; of nine the oldest goes.
     pub fn save(&mut self, bytes: &[u8]) -> Result<(), Refusal>
-        ensures { (answer_as result, self.new) ≡ save bytes.now self.old }
+        ensures is { (answer_as result, self.new) ≡ save bytes.now self.old }
+        ensures why { FifteenIs Refusal.BadLength result }
     {
         let [first, ..] = bytes else {
             return Err(Refusal::BadLength);
@@ -53,7 +57,8 @@ impl SettingStore {
 
     // The values of an age, 0 the newest.
     pub fn read(&self, age: usize) -> Result<Setting, Refusal>
-        ensures { answer_as result ≡ read_at age self.now }
+        ensures is { answer_as result ≡ read_at age self.now }
+        ensures why { FifteenIs Refusal.NotStored result }
     {
         self.kept.get(age).copied().ok_or(Refusal::NotStored)
     }

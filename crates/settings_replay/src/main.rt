@@ -15,8 +15,8 @@ use decimal::text::{put_bytes, put_unsigned};
 use fields::line::Fields;
 use hex_digits::text::{put_hex, read_hex};
 use line_input::Lines;
-use line_output::Output;
-use line_output::answers::{Text, answer_lines};
+use line_output::answers::{Answer, Text};
+use line_output::at_once::answer_at_once;
 use refusals::Refusal;
 use settings::durations::Durations;
 use settings::setting::Setting;
@@ -149,20 +149,25 @@ fn run_line(store: &mut SettingStore, line: &[u8], text: &mut Text) -> Option<()
     }
 }
 
-fn answer_line(store: &mut SettingStore, line: &[u8], text: &mut Text) {
-    if run_line(store, line, text).is_none() {
-        put_bytes(text, b"bad");
+#[derive(Drop)]
+struct Replay {
+    store: SettingStore,
+}
+
+impl Answer for Replay {
+    fn answer(&mut self, text: &mut Text, line: &[u8]) {
+        if run_line(&mut self.store, line, text).is_none() {
+            put_bytes(text, b"bad");
+        }
+        put_bytes(text, b"\n");
     }
-    put_bytes(text, b"\n");
 }
 
 // No good line has more than 202 bytes, so one that is cut to fit is bad, as it was.
 fn main(rt: HostRuntime) -> io::Result<()> {
-    let mut store = SettingStore::new();
+    let mut replay = Replay {
+        store: SettingStore::new(),
+    };
     let mut lines = Lines::new(rt.stdin());
-    let mut output = Output::new(rt.stdout());
-    answer_lines(&mut lines, &mut output, |text, line| {
-        answer_line(&mut store, line, text);
-    });
-    output.into_result()
+    answer_at_once(&mut lines, &mut io::writer(&rt), &mut replay)
 }

@@ -18,3 +18,4 @@ pub mod Worked
 pub mod Width
 pub mod Growing
 pub mod Unasked
+pub mod Stated

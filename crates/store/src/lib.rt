@@ -39,6 +39,18 @@ impl Store {
         }
     }
 
+    // Nothing is known or stored any more. Only what was there is cleared, where a new store writes all its places.
+    #[tactic(auto, unfolding(rules::specs::State::fresh))]
+    pub fn restart(&mut self, timeout: u64)
+        ensures { state_of self.new ≡ fresh timeout }
+    {
+        self.timeout = timeout;
+        self.groups.clear();
+        self.writers.clear();
+        self.pending.clear();
+        self.sets.clear();
+    }
+
     // Whether the pair of group and writer is known.
     #[tactic(auto, unfolding(rules::specs::State::knows_writer))]
     pub fn knows(&self, group: [u8; 16], writer: [u8; 16]) -> bool

@@ -14,8 +14,8 @@ use decimal::text::{put_bytes, put_signed, put_unsigned};
 use fields::line::Fields;
 use filter_hold::tbf::{Separation, TbfHold, Time, time_after};
 use line_input::Lines;
-use line_output::Output;
-use line_output::answers::{Text, answer_lines};
+use line_output::answers::{Answer, Text};
+use line_output::at_once::answer_at_once;
 use refusals::Refusal;
 use std::io;
 
@@ -148,20 +148,25 @@ fn run_line(hold: &mut TbfHold, line: &[u8], text: &mut Text) -> Option<()> {
     }
 }
 
-fn answer_line(hold: &mut TbfHold, line: &[u8], text: &mut Text) {
-    if run_line(hold, line, text).is_none() {
-        put_bytes(text, b"bad");
+#[derive(Drop)]
+struct Replay {
+    hold: TbfHold,
+}
+
+impl Answer for Replay {
+    fn answer(&mut self, text: &mut Text, line: &[u8]) {
+        if run_line(&mut self.hold, line, text).is_none() {
+            put_bytes(text, b"bad");
+        }
+        put_bytes(text, b"\n");
     }
-    put_bytes(text, b"\n");
 }
 
 // No good line has more than 78 bytes, so one that is cut to fit is bad, as it was.
 fn main(rt: HostRuntime) -> io::Result<()> {
-    let mut hold = TbfHold::new();
+    let mut replay = Replay {
+        hold: TbfHold::new(),
+    };
     let mut lines = Lines::new(rt.stdin());
-    let mut output = Output::new(rt.stdout());
-    answer_lines(&mut lines, &mut output, |text, line| {
-        answer_line(&mut hold, line, text);
-    });
-    output.into_result()
+    answer_at_once(&mut lines, &mut io::writer(&rt), &mut replay)
 }

@@ -24,24 +24,22 @@ mod replay;
 use crate::replay::Replay;
 use decimal::text::put_bytes;
 use line_input::Lines;
-use line_output::Output;
-use line_output::answers::{Text, answer_lines};
+use line_output::answers::{Answer, Text};
+use line_output::at_once::answer_at_once;
 use std::io;
 
-fn answer_line(replay: &mut Replay, line: &[u8], text: &mut Text) {
-    if replay.run_line(line, text).is_none() {
-        put_bytes(text, b"bad");
+impl Answer for Replay {
+    fn answer(&mut self, text: &mut Text, line: &[u8]) {
+        if self.run_line(line, text).is_none() {
+            put_bytes(text, b"bad");
+        }
+        put_bytes(text, b"\n");
     }
-    put_bytes(text, b"\n");
 }
 
 // No good line has more than 129 bytes, so one that is cut to fit is bad, as it was.
 fn main(rt: HostRuntime) -> io::Result<()> {
     let mut replay = Replay::new();
     let mut lines = Lines::new(rt.stdin());
-    let mut output = Output::new(rt.stdout());
-    answer_lines(&mut lines, &mut output, |text, line| {
-        answer_line(&mut replay, line, text);
-    });
-    output.into_result()
+    answer_at_once(&mut lines, &mut io::writer(&rt), &mut replay)
 }

@@ -7,7 +7,6 @@ use calls::say::{put_counts, put_done, put_offered, put_refusal, put_released};
 use decimal::text::put_bytes;
 use fields::line::Fields;
 use hex_digits::text::{put_hex, read_hex};
-use history::order::GroupOrder;
 use line_output::answers::Text;
 use presentation::ordering::GroupOrdering;
 use rules::call::{Gap, Heartbeat, Offer};
@@ -82,8 +81,11 @@ impl Replay {
     fn run_call(&mut self, line: Line, text: &mut Text) -> Option<()> {
         match line {
             Line::Timeout(timeout) => {
-                *self = Replay::new();
-                self.ordering.order = GroupOrder::new(timeout);
+                self.ordering.order.restart(timeout);
+                self.progress.clear();
+                self.counted.clear();
+                self.digests.clear();
+                self.spread = false;
                 put_bytes(text, b"ok");
             }
             Line::Counted(row) => {

@@ -1,4 +1,4 @@
-use Rattle.std.proofs.Common.{◌≡◌, refl, ◌∙◌, ◌*◌, ◌-◌, ◌++◌, ap, ap₂, sym, arith, rules, Some, None, replicate, length, drop, length-take}
+use Rattle.std.proofs.Common.{◌≡◌, refl, ◌∙◌, ◌*◌, ◌-◌, ◌++◌, ap, ap₂, arith, rules, Some, None, replicate, length, drop, length-take}
 use Rattle.std.proofs.lemmas.List.{drop-replicate}
 use Rattle.std.specs.Prelude.{Option}
 use Rattle.rules.specs.Page.{empty_row}

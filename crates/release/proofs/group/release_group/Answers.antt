@@ -1,4 +1,4 @@
-use Rattle.std.proofs.Common.{rules, arith, ℕ, ◌≡◌, ◌∙◌, ◌+◌, ◌≤◌, sym, ap, subst, length, unwrap_or, List, Option, None, Some}
+use Rattle.std.proofs.Common.{rules, arith, ℕ, ◌≡◌, ◌+◌, ◌≤◌, sym, ap, subst, length, unwrap_or, List, Option, None, Some}
 use Rattle.laws.specs.Lists.{count}
 use Rattle.rules.specs.Release.{Work}
 use Rattle.rules.specs.GroupTurn.{turn_as}
@@ -8,13 +8,9 @@ use Rattle.release.specs.GroupReleased.{Ended}
 use Rattle.release.specs.Progress.{Stands, Repeated}
 use Rattle.release.specs.declared.group.Progress.{Progress}
 use Rattle.release.proofs.Heads.{own}
-use Rattle.release.proofs.Repeats.{stuck_released, reaches_none, reaches_stop, reaches_more, reaches_all}
+use Rattle.release.proofs.Repeats.{reaches_none, reaches_stop, reaches_more, reaches_all}
 use Rattle.release.proofs.Heading.{left_room, listed_length, known_nothing}
 use Rattle.release.proofs.group.release_group.Goals as goal
-
-pub returns-then-is_stuck-clause-goes : goal.returns-then-is_stuck-clause-goes
-returns-then-is_stuck-clause-goes c =
-    stuck_released c.args.turn.now c.args.pending.now.items c.args.sets.now c.args.out.now.items (λ w a b d. c.is_stuck.ensures w (a ∙ sym c.as_slice-entries.ensures.value) b d c.if-is_stuck.true)
 
 pub loop-init : goal.loop-init
 unfolding count

@@ -4,7 +4,7 @@ use Rattle.calls.proofs.Running.{ran_start}
 use Rattle.calls.proofs.run.Calls.start.Goals as goal
 
 pub invariant_of-self : goal.invariant_of-self
-invariant_of-self g c = rw c.new-self-inside.ensures (fresh_narrow c.args.timeout)
+invariant_of-self g c = rw c.restart.ensures (fresh_narrow c.args.timeout)
 
 pub returns : goal.returns
-returns g c = ran_start (said c.put_bytes.ensures) c.new-self-inside.ensures c.clear.ensures c.clear-2.ensures
+returns g c = ran_start (said c.put_bytes.ensures) c.restart.ensures c.clear_counted.ensures c.clear.ensures

@@ -3,7 +3,7 @@ use Rattle.std.proofs.Common.{◌≡◌, ◌∙◌, ap, rules, not, length, map,
 use Rattle.std.proofs.lemmas.List.Sums.{length-filter, count_by-le-length}
 use Rattle.std.proofs.lemmas.List.{length-take}
 use Rattle.std.proofs.lemmas.Grind.{common_steps}
-use Rattle.arrayvec.proofs.ArrayVecLemmas.{filter-from_retain}
+use Rattle.std.proofs.lemmas.Fn.{filter_same}
 use Rattle.coherent_hold.specs.Gate.{leaves, member_as}
 use Rattle.coherent_hold.specs.declared.items.Member.{Member}
 use Rattle.coherent_hold.proofs.Members.{kept_members}
@@ -19,5 +19,5 @@ returns-clause-released c = let a = c.args in
 
 pub returns-clause-stay : goal.returns-clause-stay
 returns-clause-stay c = let a = c.args in
-    ap (map (λ m. member_as m)) (filter-from_retain _ (λ m. not (leaves a.writer a.new_set (member_as m))) _ (λ x b f y called. search rules) _ _ c.retain.ensures.filtered)
+    ap (map (λ m. member_as m)) (filter_same _ (λ m. not (leaves a.writer a.new_set (member_as m))) _ (λ x b f' called. search rules) _ _ c.retain.ensures.filtered)
     ∙ kept_members (λ h. not (leaves a.writer a.new_set h)) a.self.now.held.items

@@ -1,0 +1,2 @@
+mod Free
+pub mod Sifted

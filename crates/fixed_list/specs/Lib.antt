@@ -1,0 +1,2 @@
+pub mod FixedList
+pub mod Places
