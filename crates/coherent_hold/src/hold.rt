@@ -5,9 +5,24 @@ ghost use Rattle.laws.specs.Lists.{filter};
 ghost use Rattle.coherent_hold.specs.Gate.{leaves, is_full, member_as, hold_as, fresh_hold};
 
 use crate::items::Member;
-use fixed_list::FixedList;
+use fixed_list::{FixedList, Keep};
 
 pub type Members = FixedList<Member, 64>;
+
+// What stays: the members of other writers, and those of `new_set`.
+#[derive(Drop)]
+struct Staying {
+    writer: [u8; 16],
+    new_set: Option<i64>,
+}
+
+impl Keep<Member> for Staying {
+    ghost keeps = { λ k m. not (leaves k.writer k.new_set (member_as m)) };
+
+    fn keeps(&self, m: &Member) -> bool {
+        !m.leaves(self.writer, self.new_set)
+    }
+}
 
 // In the order of their arrival.
 #[derive(Clone, Copy)]
@@ -62,7 +77,7 @@ impl CoherentHold {
                 released.push(*member);
             }
         }
-        self.held.retain(|m| !m.leaves(writer, new_set));
+        self.held.retain(&Staying { writer, new_set });
         released
     }
 }

@@ -1,7 +1,7 @@
 -- Laws of the filter hold: the derived order of times, and lists under a test in std's words.
 use Prim.Native.Nat.{ℕ, suc, ◌+◌, ◌*◌, ◌/◌, ◌%◌, ◌≤◌, ◌<◌, min}
 use mathlib.Core.Path.{◌≡◌, refl, sym, ap, ◌∙◌}
-use mathlib.Core.Bool.{Bool, true, false, cond, ◌||◌, ◌&&◌, not}
+use mathlib.Core.Bool.{true, false, cond, ◌||◌, ◌&&◌, not}
 use mathlib.Core.List.{List, [], ◌∷◌, ◌++◌, append_assoc}
 use native.Mathlib.Numerals.{add-one}
 use native.Mathlib.Omega.{arith}
@@ -24,7 +24,7 @@ use Rattle.std.specs.Ordering.{is_some_and, is_le, partial_ordering_then, int_cm
 use Rattle.std.proofs.lemmas.Bool.Decides.{nat_tests}
 use Rattle.laws.specs.Whole.{eq_z}
 use Rattle.laws.specs.Lists.{filter, list_any, index_of}
-use Rattle.laws.proofs.Lists.{keep_append, keep_none, keep_fewer, length_keep, length_split}
+use Rattle.laws.proofs.Lists.{keep_none, keep_fewer, length_keep, length_split}
 use Rattle.filter_hold.specs.declared.tbf.Time.{Time}
 use Rattle.filter_hold.specs.declared.tbf.Held.{Held}
 use Rattle.filter_hold.specs.Tbf.{not_after, from_zero, time_of, is_of, follows, supersede, words, written}
@@ -85,14 +85,6 @@ before a b =
     ]) refl
 
 -- ---- lists
-
-module _ {A : Type 0} (p : A → Bool) where
-  -- one more is tested
-  pub keep_next : (l : List A) (i : ℕ) (d : A) → i < length l → filter p (take (i + 1) l) ≡ filter p (take i l) ++ cond (p (get_or l i d)) (get_or l i d ∷ []) []
-  keep_next l i d h =
-      ap (λ j. filter p (take j l)) (add-one i)
-      ∙ ap (λ x. filter p x) (take-suc l i d h)
-      ∙ keep_append p (take i l) (get_or l i d ∷ [])
 
 pub held_any : (k : ℕ) (l : List Held) → list_any (λ x. x.instance == k) l ≡ list_any (λ x. is_of k x) l
 unfolding is_of

@@ -1,11 +1,11 @@
 // What a reliable reader's TIME_BASED_FILTER held back (DDS 1.4 §2.2.3.12): per instance the last filtered sample.
-ghost use Rattle.std.specs.Prelude.{◌≡◌, ◌+◌, ◌*◌, ◌≤◌, ◌<◌, ◌==◌, nat_le, eqb, length};
+ghost use Rattle.std.specs.Prelude.{◌≡◌, ◌+◌, ◌*◌, ◌≤◌, ◌<◌, ◌==◌, not, nat_le, eqb, length};
 ghost use Rattle.laws.specs.Answer.{Kept};
 ghost use Rattle.refusals.specs.Refusal.{answer_as};
 ghost use Rattle.filter_hold.specs.Tbf.{not_after, time_after, nothing, supersede, hold, due_at, take_due};
 ghost use Rattle.std.specs.List.{list_any, prefix_len};
 
-use fixed_list::{Blank, FixedList};
+use fixed_list::{Blank, FixedList, Keep};
 use refusals::Refusal;
 
 // In nanoseconds.
@@ -88,6 +88,34 @@ impl Held {
     }
 }
 
+// The samples of other instances.
+#[derive(Drop)]
+struct OfOthers {
+    instance: u64,
+}
+
+impl Keep<Held> for OfOthers {
+    ghost keeps = { λ k x. not (eqb k.instance x.instance) };
+
+    fn keeps(&self, x: &Held) -> bool {
+        self.instance != x.instance
+    }
+}
+
+// The samples not yet due.
+#[derive(Drop)]
+struct NotDue {
+    time: Time,
+}
+
+impl Keep<Held> for NotDue {
+    ghost keeps = { λ k x. not (not_after x.due k.time) };
+
+    fn keeps(&self, x: &Held) -> bool {
+        !x.is_due(self.time)
+    }
+}
+
 // From nothing held: at most one sample of an instance, in the order of their instances.
 #[derive(Clone, Copy, Default, PartialEq, Eq, Debug)]
 pub struct TbfHold {
@@ -138,7 +166,7 @@ impl TbfHold {
     pub fn supersede(&mut self, instance: u64)
         ensures { self.new.held.items ≡ supersede instance self.old.held.items }
     {
-        self.held.retain(|x| x.instance != instance);
+        self.held.retain(&OfOthers { instance });
     }
 
     // Takes out the samples due at or before the time: instance and item of each, written from the list's start.
@@ -155,7 +183,7 @@ impl TbfHold {
             out[k * 2] = x.instance;
             out[k * 2 + 1] = u64::from(x.item);
         }
-        self.held.retain(|x| !x.is_due(time));
+        self.held.retain(&NotDue { time });
         Ok(due.len())
     }
 

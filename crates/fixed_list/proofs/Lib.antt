@@ -1,2 +1,2 @@
+pub mod Carried
 mod Free
-pub mod Sifted

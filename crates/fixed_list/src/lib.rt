@@ -4,4 +4,4 @@
 mod list;
 mod traits;
 
-pub use list::{Blank, FixedList};
+pub use list::{Blank, FixedList, Keep};

@@ -1,7 +1,6 @@
 // The list: its items in the first places, blanks in the others.
-ghost use Rattle.std.specs.Prelude.{◌≡◌, ◌+◌, ◌-◌, ◌<◌, ◌≤◌, ◌==◌, ◌↔◌, List, [], ◌∷◌, ◌++◌, length, take, insert, slice_set, IsOk, OnOk, OnErr, IfErr};
-ghost use Rattle.std.specs.Fn.{CalledAt};
-ghost use Rattle.std.specs.List.Retain.{IsFiltered};
+ghost use Rattle.std.specs.Prelude.{◌≡◌, ◌+◌, ◌-◌, ◌<◌, ◌≤◌, ◌==◌, ◌↔◌, Bool, true, false, List, [], ◌∷◌, ◌++◌, length, take, insert, leb, slice_set, IsOk, OnOk, OnErr, IfErr};
+ghost use Rattle.std.specs.List.{filter};
 ghost use Rattle.fixed_list.specs.FixedList.{len_of};
 
 use std::marker::Model;
@@ -13,6 +12,30 @@ pub trait Blank: Copy {
 
     fn blank() -> Self
         ensures { result ≡ blank };
+}
+
+impl Blank for u8 {
+    ghost blank = { 0 };
+
+    fn blank() -> u8 {
+        0
+    }
+}
+
+impl Blank for usize {
+    ghost blank = { 0 };
+
+    fn blank() -> usize {
+        0
+    }
+}
+
+// Which items `retain` keeps. Not a closure, of which it would have to be asked that it may be called with any item.
+pub trait Keep<T> {
+    ghost keeps: { Self → T → Bool };
+
+    fn keeps(&self, item: &T) -> bool
+        ensures { result ≡ keeps self.now item.now };
 }
 
 // At most N items, in the value itself: it is copied whole.
@@ -104,15 +127,13 @@ impl<T: Blank, const N: usize> FixedList<T, N> {
         &self.places[..self.len]
     }
 
-    // Puts an item behind the others. A place must be free.
+    // Puts an item behind the others; where no place is free the list stays as it is.
     pub fn push(&mut self, item: T)
-        requires { len_of self.old < N }
-        ensures items { self.new.items ≡ self.old.items ++ item ∷ [] }
-        ensures len { len_of self.new ≡ len_of self.old + 1 }
+        ensures items { len_of self.old < N → self.new.items ≡ self.old.items ++ item ∷ [] }
+        ensures len { len_of self.old < N → len_of self.new ≡ len_of self.old + 1 }
+        ensures full { len_of self.old ≡ N → self.new ≡ self.old }
     {
-        let end = self.len;
-        self.places[end] = item;
-        self.len = end + 1;
+        let _ = self.try_push(item);
     }
 
     // Puts an item behind the others, or hands it back where no place is free.
@@ -124,34 +145,53 @@ impl<T: Blank, const N: usize> FixedList<T, N> {
         ensures full { OnErr result (len_of self.old ≡ N) }
         ensures item_returned { IfErr result (λ e. e ≡ item) }
     {
-        if self.is_full() {
+        let end = self.len;
+        if N <= end {
             return Err(item);
         }
-        self.push(item);
+        self.places[end] = item;
+        self.len = end + 1;
         Ok(())
     }
 
-    // Puts an item at a place, and moves those from there on up. A place must be free.
-    pub fn insert(&mut self, at: usize, item: T)
-        requires in_bounds { at ≤ len_of self.old }
-        requires room { len_of self.old < N }
-        ensures items { self.new.items ≡ insert self.old.items at item }
-        ensures len { len_of self.new ≡ len_of self.old + 1 }
+    // Puts all behind the others, or none where they have no place: whether they had.
+    pub fn extend_from_slice(&mut self, items: &[T]) -> bool
+        ensures fits { result ≡ leb (len_of self.old + length items.now) N }
+        ensures put { result ≡ true → self.new.items ≡ self.old.items ++ items.now }
+        ensures stays { result ≡ false → self.new ≡ self.old }
     {
         let len = self.len;
-        self.places[len] = item;
-        last_to(&mut self.places[..len + 1], at);
-        self.len = len + 1;
+        let fits = items.len() <= N - len;
+        if fits {
+            let end = len + items.len();
+            copy_to(&mut self.places[..end], len, items);
+            self.len = end;
+        }
+        fits
     }
 
-    // Another item at a place.
+    // Puts an item at a place, past the end behind the others, and moves those from there on up; where no place is free the list stays.
+    pub fn insert(&mut self, at: usize, item: T)
+        ensures items { len_of self.old < N → self.new.items ≡ insert self.old.items at item }
+        ensures len { len_of self.old < N → len_of self.new ≡ len_of self.old + 1 }
+        ensures full { len_of self.old ≡ N → self.new ≡ self.old }
+    {
+        let len = self.len;
+        if len < N {
+            self.places[len] = item;
+            last_to(&mut self.places[..len + 1], at);
+            self.len = len + 1;
+        }
+    }
+
+    // Another item at a place; past the end the list stays as it is.
     pub fn set(&mut self, at: usize, item: T)
-        requires { at < len_of self.old }
         ensures items { self.new.items ≡ slice_set self.old.items at item }
         ensures len { len_of self.new ≡ len_of self.old }
     {
-        prove!(at < self.len);
-        self.places[at] = item;
+        if at < self.len {
+            self.places[at] = item;
+        }
     }
 
     // Keeps the first `len` items.
@@ -176,38 +216,51 @@ impl<T: Blank, const N: usize> FixedList<T, N> {
         self.truncate(0);
     }
 
-    // Keeps the items at which `keep` answers `true`, in their order.
-    pub fn retain<F: FnMut(&T) -> bool>(&mut self, keep: F)
-        requires { F.IsAlwaysCallable keep }
-        ensures filtered { IsFiltered (CalledAt F.FnMut) keep self.old.items self.new.items }
+    // Keeps some items, in their order.
+    pub fn retain<K: Keep<T>>(&mut self, kept: &K)
+        ensures items { self.new.items ≡ filter (K.keeps kept.now) self.old.items }
         ensures bound { len_of self.new ≤ len_of self.old }
     {
         let len = self.len;
-        let kept = to_front(&mut self.places[..len], keep);
+        let kept = to_front(&mut self.places[..len], kept);
         self.truncate(kept);
     }
 }
 
-// The last item goes to a place, and those from there on one up.
-fn last_to<T>(items: &mut [T], at: usize)
-    requires { at < length items.old }
+// The items from a place on become those of another list.
+fn copy_to<T: Copy>(items: &mut [T], at: usize, source: &[T])
+    requires { at + length source.now ≡ length items.old }
+    ensures items { items.new ≡ take at items.old ++ source.now }
+{
+    items[at..].copy_from_slice(source);
+}
+
+// The last item goes to a place, and those from there on one up; past the end nothing moves. Each is carried to the next place, since not
+// every C library has `memmove`.
+fn last_to<T: Copy>(items: &mut [T], at: usize)
+    requires { 0 < length items.old }
     ensures items { (rest : List T) (x : T) → items.old ≡ rest ++ x ∷ [] → items.new ≡ insert rest at x }
     ensures len { length items.new ≡ length items.old }
 {
-    items[at..].rotate_right(1);
+    let mut carried = items[items.len() - 1];
+    for i in at..items.len() {
+        let next = items[i];
+        items[i] = carried;
+        carried = next;
+    }
 }
 
-// The items at which `keep` answers `true` moved to the front, in their order: how many they are.
-fn to_front<T: Copy, F: FnMut(&T) -> bool>(items: &mut [T], mut keep: F) -> usize
-    requires { F.IsAlwaysCallable keep }
-    ensures filtered { IsFiltered (CalledAt F.FnMut) keep items.old (take result items.new) }
+// The items kept moved to the front, in their order: how many they are.
+fn to_front<T: Copy, K: Keep<T>>(items: &mut [T], test: &K) -> usize
+    ensures items { take result items.new ≡ filter (K.keeps test.now) items.old }
     ensures bound { result ≤ length items.old }
     ensures len { length items.new ≡ length items.old }
 {
     let mut kept = 0;
     for i in 0..items.len() {
-        if keep(&items[i]) {
-            items[kept] = items[i];
+        let item = items[i];
+        if test.keeps(&item) {
+            items[kept] = item;
             kept += 1;
         }
     }

@@ -1,7 +1,7 @@
 -- Every chain of calls from a new history has all of the third demand: each contract is a step of the definitions.
 use Prim.Native.Nat.{ℕ}
 use mathlib.Core.Path.{◌≡◌, refl, ap, subst, ◌∙◌}
-use mathlib.Core.List.{List, [], ◌∷◌, map}
+use mathlib.Core.List.{List, ◌∷◌, map}
 use lib.ListN.{length}
 use Rattle.laws.specs.Answer.{Answer, refused, answered}
 use Rattle.rules.specs.State.{State, fresh}

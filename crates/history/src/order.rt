@@ -22,7 +22,7 @@ use std::marker::Model;
 use store::Store;
 
 // Seen as the definitions' state: the groups and writers known, the entries pending and held, the counts and the timeout.
-#[derive(Drop)]
+#[derive(Clone, Copy)]
 pub struct GroupOrder {
     pub store: Store,
 }
@@ -30,11 +30,17 @@ pub struct GroupOrder {
 impl Model for GroupOrder {
     ghost use Rattle.std.specs.Prelude.{ℕ};
     ghost use Rattle.rules.specs.State.{State};
+    ghost use Rattle.std.proofs.Common.{ap};
     ghost use Rattle.store.specs.Store.{state_of};
+    ghost use Rattle.store.specs.Back.{store_of, store_back};
 
     ghost Value = { State ℕ };
 
     ghost view = { λ order. state_of order.store };
+
+    ghost inverse = { λ s. record { store = store_of s } };
+
+    ghost inverse_ok = { λ order _. ap (λ s. record { store = s }) (store_back order.store) };
 }
 
 impl GroupOrder {

@@ -8,16 +8,16 @@ pub mod at_once;
 mod pieces;
 
 use crate::pieces::write_out;
-use arrayvec::ArrayVec;
+use fixed_list::FixedList;
 use line_input::Lines;
 use std::io;
 use std::io::{Error, Read, Write};
 
 // The bytes of the room are gathered and not written. Once a write has failed nothing more is gathered or written.
-#[derive(Drop)]
+#[derive(Clone, Copy, Drop)]
 pub struct Output<W> {
     writer: W,
-    room: ArrayVec<u8, 65536>,
+    room: FixedList<u8, 65536>,
     failed: Option<Error>,
 }
 
@@ -35,7 +35,7 @@ impl<W: Write> Output<W> {
     {
         Output {
             writer,
-            room: ArrayVec::new(),
+            room: FixedList::new(),
             failed: None,
         }
     }
@@ -47,11 +47,11 @@ impl<W: Write> Output<W> {
         ensures waits { length (pending self.old) + length text.now ≤ 65536 → self.new.writer ≡ self.old.writer }
         ensures stopped { IsSome self.old.failed → self.new.writer ≡ self.old.writer }
     {
-        if self.has_failed() || self.room.try_extend_from_slice(text).is_ok() {
+        if self.has_failed() || self.room.extend_from_slice(text) {
             return;
         }
         self.flush(); // the room is full
-        if self.failed.is_none() && self.room.try_extend_from_slice(text).is_err() {
+        if self.failed.is_none() && !self.room.extend_from_slice(text) {
             self.failed = write_out(&mut self.writer, text).err(); // longer than the room
         }
     }
@@ -111,7 +111,7 @@ mod tests {
     use std::io::{ErrorKind, Result};
 
     // Takes a byte a write; it puts every other write off, and fails once it has `most` bytes.
-    #[derive(Drop)]
+    #[derive(Clone, Copy, Drop)]
     struct Slow {
         took: [u8; 16],
         count: usize,
@@ -177,5 +177,19 @@ mod tests {
         output.flush();
         assert_eq!(rt; output.has_failed(), true);
         assert_eq!(rt; output.writer.count, 4);
+    }
+
+    // A copy goes on from what was gathered, and each has its own text.
+    #[test]
+    fn a_copy_goes_on(rt: HostRuntime) {
+        let mut first = Output::new(Slow::new(16));
+        first.gather(b"ab");
+        let mut second = first;
+        first.gather(b"c");
+        second.gather(b"de");
+        first.flush();
+        second.flush();
+        assert_eq!(rt; first.writer.took, *b"abc\0\0\0\0\0\0\0\0\0\0\0\0\0");
+        assert_eq!(rt; second.writer.took, *b"abde\0\0\0\0\0\0\0\0\0\0\0\0");
     }
 }

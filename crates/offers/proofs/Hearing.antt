@@ -1,9 +1,7 @@
 -- Groups and writers made known, and a writer changed.
 use Rattle.std.specs.Prelude.{ℕ, ◌+◌, ◌<◌, ◌≤◌, suc, Bool, true, false, not, ◌&&◌, ◌||◌, leb, cond, List, [], ◌∷◌, ◌++◌, length, get_or, set, ◌≡◌, Some, None}
 use Rattle.std.specs.List.{insert, position_or_len, position}
-use Rattle.std.proofs.Common.{zero, ltb, refl, sym, ap, ◌∙◌, arith, length-set}
-use Rattle.arrayvec.specs.ArrayVec.{ArrayVec, with_items}
-use Rattle.arrayvec.proofs.ArrayVecLemmas.{items-with_items}
+use Rattle.std.proofs.Common.{zero, ltb, refl, sym, ap, ◌∙◌, arith}
 use Rattle.std.specs.Option.{unwrap_or, is_none}
 use Rattle.std.proofs.lemmas.List.Sums.{prefix_len-le-length}
 use Rattle.std.proofs.lemmas.List.Quantifiers.{position-Some}
@@ -12,7 +10,7 @@ use Rattle.std.proofs.lemmas.Bool.{ltb-false, lt-ltb}
 use Rattle.std.proofs.lemmas.List.Edits.{length-insert}
 use borrow.Author.Tests.{leb-false}
 use Rattle.laws.specs.Lists.{list_any, change, find}
-use Rattle.laws.proofs.Lists.{not_both, and_true, or_true_right}
+use Rattle.laws.proofs.Lists.{not_both, and_true}
 use Rattle.guids.specs.Guid.{Guid, same_guid, before}
 use Rattle.guids.proofs.Guids.{same_refl}
 use Rattle.rules.specs.declared.state.Group.{Group}
@@ -94,6 +92,10 @@ module _ {A : Type 0} (p : A → Bool) where
       let n = at_inserted l i x h (none_found l e) k in
       rw (n, lt-ltb i (length (insert l i x)) (omega (arith, length-insert l i x h))) refl
 
+  -- so there is room for it
+  pub room_for_new : (n : ℕ) (l : List A) → None ≡ position p l → not (list_any p l) && leb n (length l) ≡ false → length l < n
+  room_for_new n l e h = leb-false n (length l) (rw (none_found l e) at h)
+
   find_first : (l : List A) (i : ℕ) (z : A) → i < length l → p (get_or l i z) ≡ true → ((k : ℕ) → k < i → p (get_or l k z) ≡ false) → find p l ≡ Some (get_or l i z)
   find_first [] i z h e n = absurd (omega arith)
   find_first (x ∷ l) zero z h e n = rw e refl
@@ -115,10 +117,6 @@ module _ {A : Type 0} (p : A → Bool) where
   unfolding change
   change_last f [] a h e = rw e
   change_last f (x ∷ l) a h e = (elim (p x) as (λ b. b || list_any p l ≡ false → cond b (f x ∷ (l ++ (a ∷ []))) (x ∷ change p f (l ++ (a ∷ []))) ≡ x ∷ (l ++ (f a ∷ []))) [ true ↦ λ k. not_both true refl k | false ↦ λ k. ap (λ r. x ∷ r) (change_last f l a k e) ]) h
-
--- a write through the slice of all
-pub written : {A : Type 0} (v : ArrayVec A) (l : List A) (i : ℕ) (x : A) → l ≡ v.items → (with_items v (set l i x)).items ≡ set v.items i x
-written v l i x e = items-with_items v (set l i x) (length-set l i x ∙ ap length e) ∙ ap (λ k. set k i x) e
 
 -- where group and writer are heard, and the group's announced number is raised then
 pub heard_announced : (p : Group → Bool) (f : Group → Group) (s t u : State ℕ) (gs : List Group) (ws : List Writer) → t ≡ with_marks gs ws s → u ≡ with_marks (change p f t.groups) t.writers t → u ≡ with_marks (change p f gs) ws s
@@ -149,8 +147,3 @@ unfolding tell hear_writer knows_writer
 told_new g w f l e =
     let h = none_found (λ x. is_writer g w x) l e in
     rw h (change_last (λ x. is_writer g w x) f l (new_writer g w) h (own_writer g w))
-
--- so there is room for it
-pub room_for_new : (g w : Guid) (l : List Writer) → None ≡ position (λ x. is_writer g w x) l → not (knows_writer g w l) && leb 32 (length l) ≡ false → length l < 32
-unfolding knows_writer
-room_for_new g w l e h = leb-false 32 (length l) (rw (none_found (λ x. is_writer g w x) l e) at h)

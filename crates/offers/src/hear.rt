@@ -66,7 +66,11 @@ fn tell<F: FnOnce(&mut Writer)>(store: &mut Store, sender: Sender, change: F)
     ensures groups { (state_of store.new).groups ≡ (state_of store.old).groups }
 {
     match sender.writer_at {
-        Some(i) => change(&mut store.writers.as_mut_slice()[i]),
+        Some(i) => {
+            let mut writer = store.writers.as_slice()[i];
+            change(&mut writer);
+            store.writers.set(i, writer);
+        }
         None => {
             let mut writer = Writer::new(sender.group, sender.writer);
             change(&mut writer);
@@ -80,5 +84,7 @@ pub(crate) fn announce(store: &mut Store, at: usize, current: u64)
     requires { (g : Guid) × (Some at ≡ position (λ x. is_group g x) (state_of store.old).groups) }
     ensures { (g : Guid) → Some at ≡ position (λ x. is_group g x) (state_of store.old).groups → state_of store.new ≡ with_marks (change (λ x. is_group g x) (λ x. announced_to current x) (state_of store.old).groups) (state_of store.old).writers (state_of store.old) }
 {
-    store.groups.as_mut_slice()[at].announce(current);
+    let mut group = store.groups.as_slice()[at];
+    group.announce(current);
+    store.groups.set(at, group);
 }

@@ -17,7 +17,7 @@ use turn::rows::{Progress, Report};
 use turn::take::take_turn;
 
 // Seen as its history's state.
-#[derive(Drop)]
+#[derive(Clone, Copy)]
 pub struct GroupOrdering {
     pub order: GroupOrder,
 }
@@ -29,6 +29,8 @@ impl Model for GroupOrdering {
     ghost Value = { State ℕ };
 
     ghost view = { λ ordering. ordering.order };
+
+    ghost inverse = { λ s. record { order = s } };
 }
 
 impl GroupOrdering {

@@ -1,7 +1,8 @@
 // When the lowest pending number of a group is ready: passable and copies_arrived of the source.
 #![tactic(auto)]
 
-ghost use Rattle.std.specs.Prelude.{◌≡◌, ◌||◌, ◌&&◌, suc, eqb, leb};
+ghost use Rattle.std.specs.Prelude.{◌≡◌, ◌||◌, ◌&&◌, not, suc, eqb, leb};
+ghost use Rattle.guids.specs.Guid.{same_guid};
 ghost use Rattle.rules.specs.Commit.{ruled_out, copies_arrived, digests_accepted};
 ghost use Rattle.rules.specs.GroupTurn.{turn_as};
 ghost use Rattle.ready.specs.Places.{entries_at, copied};
@@ -10,6 +11,7 @@ ghost use Rattle.ready.specs.Own.{turn_for};
 use crate::digests::digests_accepted;
 use crate::heads::Heads;
 use crate::past::{all_past, is_past, own_past};
+use guids::guid::same;
 use rules::entry::Entry;
 use rules::turn::GroupTurn;
 use rules::view::Pair;
@@ -78,4 +80,30 @@ pub fn copies_arrived(
     turn.counted
         .iter()
         .all(|p| is_copied(turn, number, &heads, p))
+}
+
+// The row is not of the group, or copied. Its reader is asked first, which is enough for most.
+fn is_copied_or_other(turn: &GroupTurn<'_>, number: u64, heads: &Heads<'_>, row: &Pair) -> bool
+    ensures { result ≡ (not (same_guid turn.now.group.guid row.now.group) || copied (turn_as turn.now) number (entries_at heads.now.pending.now heads.now.places.now) row.now) }
+{
+    heads.has_reader(row.reader)
+        || !same(turn.group.guid, row.group)
+        || is_past(turn, row, number)
+        || !heads.has_writer(row.writer)
+}
+
+// The same of rows of all groups, which need not be gathered first: those of the group are asked. The turn's own rows are not.
+pub fn copies_arrived_for(
+    turn: &GroupTurn<'_>,
+    counted: &[Pair],
+    number: u64,
+    pending: &[Entry<u32>],
+    heads: &[usize],
+) -> bool
+    ensures { result ≡ copies_arrived (turn_for counted.now turn.now) number (entries_at pending.now heads.now) }
+{
+    let heads = Heads::new(pending, heads);
+    counted
+        .iter()
+        .all(|p| is_copied_or_other(turn, number, &heads, p))
 }

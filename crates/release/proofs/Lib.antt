@@ -9,4 +9,5 @@ pub mod OwnRows
 pub mod Repeats
 pub mod Finishing
 pub mod Heading
+pub mod Gathered
 pub mod Groups

@@ -1,5 +1,5 @@
 -- The group's rows, each once.
-use Rattle.std.proofs.Common.{◌≡◌, ◌∙◌, ℕ, ◌+◌, ◌<◌, Bool, true, false, ◌&&◌, ◌||◌, cond, List, [], ◌∷◌, ◌++◌, length, take, get_or, eqb, refl, sym, ap, ap₂, append-nil}
+use Rattle.std.proofs.Common.{◌≡◌, ◌∙◌, ℕ, ◌+◌, ◌<◌, ℤ, Bool, true, false, ◌&&◌, ◌||◌, cond, List, [], ◌∷◌, ◌++◌, length, take, get_or, eqb, not, refl, sym, ap, ap₂, subst, append-nil}
 use Rattle.std.proofs.lemmas.List.Folds.{list_all-append}
 use Rattle.std.proofs.lemmas.List.Elements.{filter-append}
 use Rattle.std.proofs.lemmas.List.{take_more}
@@ -8,6 +8,14 @@ use Rattle.laws.specs.Lists.{filter, list_all, list_any}
 use Rattle.guids.specs.Guid.{same_guid}
 use Rattle.guids.proofs.Guids.{same_eq}
 use Rattle.rules.specs.declared.view.Pair.{Pair}
+use Rattle.rules.specs.declared.entry.Entry.{Entry}
+use Rattle.rules.specs.declared.turn.GroupTurn.{GroupTurn}
+use Rattle.rules.specs.Commit.{Turn}
+use Rattle.rules.specs.Release.{waits, finish, finish_if}
+use Rattle.rules.proofs.SameRows.{with_counted, whole_same, waits_same}
+use Rattle.sets.specs.declared.Sets.{Sets}
+use Rattle.sets.specs.Works.{Carries, Goes}
+use Rattle.release.specs.OwnTurn.{own_turn}
 use Rattle.release.specs.Rows.{SameRows, same_row}
 
 same_row_is : (a b : Pair) → same_row a b ≡ true → a ≡ b
@@ -46,3 +54,17 @@ more_rows p cs i d h =
     let x = get_or cs i d in
     ap (λ l. filter p l) (take_more cs i d h) ∙ filter-append p (take i cs) (x ∷ [])
     ∙ (elim (p x) as (λ b. filter p (take i cs) ++ cond b (x ∷ []) [] ≡ cond b (filter p (take i cs) ++ (x ∷ [])) (filter p (take i cs))) [ true ↦ refl | false ↦ append-nil (filter p (take i cs)) ])
+
+-- rows of which the same may be asked finish a set alike
+module _ (t : GroupTurn) (rows : List Pair) (h : SameRows (filter (λ p. same_guid t.group.guid p.group) t.counted.now) rows) (z y : ℤ) (e : y ≡ z) where
+  abbrev asked : Turn
+  asked = record { guid = t.group.guid; announced = t.group.announced; writers = t.writers.now; counted = rows; digests = t.digests.now; now = t.time; timeout = t.timeout }
+
+  pub waits_alike : (b : Bool) (l : List (Entry ℕ)) → b ≡ not (waits asked y l) → b ≡ not (waits (own_turn t) z l)
+  unfolding with_counted
+  waits_alike b l f = f ∙ ap (λ k. not (waits asked k l)) e ∙ ap not (sym (waits_same (own_turn t).counted rows h (own_turn t) z l))
+
+  pub finish_alike : (s u : Sets) (o p : List ℕ) → Goes (λ w. finish asked y w) s o u p → Goes (λ w. finish (own_turn t) z w) s o u p
+  unfolding finish
+  finish_alike s u o p f w x =
+      subst (λ b. Carries u p (finish_if b t.group.guid z w)) (sym (whole_same (own_turn t).counted rows h t.group.guid z w.held)) (subst (λ k. Carries u p (finish asked k w)) e (f w x))

@@ -1,9 +1,5 @@
 -- Groups released one after the other, as the store holds them.
 use Rattle.std.specs.Prelude.{ℕ, ◌≡◌, List, ◌++◌, get_or, slice_set, take, drop}
-use Rattle.laws.specs.Lists.{filter}
-use Rattle.guids.specs.Guid.{same_guid}
-use Rattle.release.specs.Rows.{SameRows}
-use Rattle.rules.specs.declared.view.Pair.{Pair}
 use Rattle.rules.specs.Commit.{Turn}
 use Rattle.rules.specs.Release.{View, Work, turn_of, committed_at, release_group, release_all, work_of}
 use Rattle.rules.specs.declared.state.Group.{Group}
@@ -30,10 +26,6 @@ pub record Steps (v : View) (now : ℕ) (i : ℕ) (s : Store) (o : List ℕ) (u 
   pub step : (g : Group) → get_or s.groups.items i g ≡ g → (w : Work ℕ) → Leaves s o w → GroupStep i s u p g (release_group (turn_in v now s g) g w)
   pub writers : u.writers.items ≡ s.writers.items
   pub timeout : u.timeout ≡ s.timeout
-
--- of the rows of all groups these are those of the group at place i, but for how often one stands
-abbrev pub OwnRows : ℕ → Store → List Pair → List Pair → Type 0
-OwnRows i s cs rows = (g : Group) → get_or s.groups.items i g ≡ g → SameRows (filter (λ p. same_guid g.guid p.group) cs) rows
 
 -- the first i groups are released, and r is what that leaves
 pub record GroupsReleased (i : ℕ) (s u : Store) (p : List ℕ) (r : List Group × Work ℕ) : Type 0 where

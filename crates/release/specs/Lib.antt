@@ -6,3 +6,4 @@ pub mod GroupReleased
 pub mod Progress
 pub mod GroupSteps
 pub mod Rows
+pub mod OwnTurn

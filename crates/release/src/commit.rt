@@ -10,6 +10,7 @@ ghost use Rattle.release.specs.Known.{Known};
 ghost use Rattle.ready.specs.Places.{entries_at};
 ghost use Rattle.release.specs.Order.{AllBelow};
 ghost use Rattle.arrayvec.specs.ArrayVec.{array_vec_len};
+ghost use Rattle.fixed_list.specs.FixedList.{len_of};
 
 use crate::stale::discard_stale;
 use arrayvec::ArrayVec;
@@ -62,10 +63,10 @@ fn mark(held: &[Entry<u32>], e: &Entry<u32>) -> Option<u64>
 
 // An end is kept in place of its pair's earlier one, and marks its set ended.
 fn keep_end(sets: &mut Sets, e: Entry<u32>)
-    requires { array_vec_len sets.old.held < 256 }
+    requires { len_of sets.old.held < 256 }
     ensures held { sets.new.held.items ≡ keep_end (mark_or e.time (find (λ m. shares e m && marks m) sets.old.held.items)) e sets.old.held.items }
     ensures counts { sets.new.counts ≡ sets.old.counts }
-    ensures room { array_vec_len sets.new.held ≤ array_vec_len sets.old.held + 1 }
+    ensures room { len_of sets.new.held ≤ len_of sets.old.held + 1 }
 {
     let ended = mark(sets.held.as_slice(), &e);
     sets.keep_end(e, ended);
@@ -74,9 +75,9 @@ fn keep_end(sets: &mut Sets, e: Entry<u32>)
 // A member joins its set; an end is kept in place of its pair's earlier one and marks its set ended; a plain sample is handed out; an end
 // without a set is dropped.
 fn settle(sets: &mut Sets, e: Entry<u32>, out: &mut ArrayVec<u64, 256>)
-    requires { array_vec_len sets.old.held + array_vec_len out.old < 256 }
+    requires { len_of sets.old.held + array_vec_len out.old < 256 }
     ensures goes { Goes (λ w. settle e w e.what e.set) sets.old out.old.items sets.new out.new.items }
-    ensures room { array_vec_len sets.new.held + array_vec_len out.new ≤ array_vec_len sets.old.held + array_vec_len out.old + 1 }
+    ensures room { len_of sets.new.held + array_vec_len out.new ≤ len_of sets.old.held + array_vec_len out.old + 1 }
 {
     match (e.what, e.set) {
         (What::Sample(_), None) => out.push(place_of(&e)),
@@ -88,10 +89,10 @@ fn settle(sets: &mut Sets, e: Entry<u32>, out: &mut ArrayVec<u64, 256>)
 
 // The entry is committed, after every set that is neither ended nor its own is discarded: with `clean` there is none.
 fn commit_one(sets: &mut Sets, e: Entry<u32>, out: &mut ArrayVec<u64, 256>, clean: bool)
-    requires room { array_vec_len sets.old.held + array_vec_len out.old < 256 }
+    requires room { len_of sets.old.held + array_vec_len out.old < 256 }
     requires clean { clean ≡ true → lowest_stale e sets.old.held.items ≡ None }
     ensures goes { Goes (λ w. commit_one e w) sets.old out.old.items sets.new out.new.items }
-    ensures room { array_vec_len sets.new.held + array_vec_len out.new ≤ array_vec_len sets.old.held + array_vec_len out.old + 1 }
+    ensures room { len_of sets.new.held + array_vec_len out.new ≤ len_of sets.old.held + array_vec_len out.old + 1 }
 {
     if !clean {
         discard_stale(sets, &e);
@@ -110,10 +111,10 @@ pub(crate) fn commit_all(
 ) -> Memory
     requires within { AllBelow (length pending.now) places.now }
     requires group { list_all (λ e. of_group group e) (entries_at pending.now places.now) ≡ true }
-    requires room { array_vec_len sets.old.held + array_vec_len out.old + length places.now ≤ 256 }
+    requires room { len_of sets.old.held + array_vec_len out.old + length places.now ≤ 256 }
     requires known { Known group memory sets.old.held.items }
     ensures goes { Goes (λ w. commit_all (entries_at pending.now places.now) w) sets.old out.old.items sets.new out.new.items }
-    ensures room { array_vec_len sets.new.held + array_vec_len out.new ≤ array_vec_len sets.old.held + array_vec_len out.old + length places.now }
+    ensures room { len_of sets.new.held + array_vec_len out.new ≤ len_of sets.old.held + array_vec_len out.old + length places.now }
     ensures known { Known group result sets.new.held.items }
 {
     let mut memory = memory;

@@ -1,25 +1,28 @@
-// The release of one group: release_group of the source.
+// The release of one group: release_group of the source. The turn's counted rows are those of all groups.
 ghost use Rattle.std.specs.Prelude.{ℕ, ◌≡◌, ◌+◌, ◌-◌, ◌≤◌, suc, true, false, not, Some, None, length, unwrap_or, take, drop, eqb, slice_get, option_copied};
 ghost use Rattle.laws.specs.Lists.{count, filter, list_all};
 ghost use Rattle.rules.specs.Entry.{of_group};
 ghost use Rattle.rules.specs.declared.entry.Entry.{Entry};
 ghost use Rattle.rules.specs.Sets.{lowest_ended};
-ghost use Rattle.rules.specs.Release.{Work, round, skip, waits, finish};
 ghost use Rattle.rules.specs.GroupTurn.{turn_as};
+ghost use Rattle.rules.specs.Release.{Work, round, skip, waits, finish};
 ghost use Rattle.sets.specs.Works.{Goes};
 ghost use Rattle.ready.specs.Places.{entries_at};
-ghost use Rattle.ready.specs.Own.{turn_for};
+ghost use Rattle.release.specs.OwnTurn.{own_turn};
 ghost use Rattle.release.specs.Order.{by_number, AllBelow};
 ghost use Rattle.release.specs.GroupReleased.{Ended, GroupReleased};
 ghost use Rattle.release.specs.Progress.{Stands, Repeated};
 ghost use Rattle.release.specs.Left.{left};
 ghost use Rattle.arrayvec.specs.ArrayVec.{array_vec_len};
+ghost use Rattle.fixed_list.specs.FixedList.{len_of};
 
 use crate::commit::{Memory, commit_all};
 use crate::order::in_order;
+use crate::rows::{are_of, rows_of};
 use arrayvec::ArrayVec;
+use fixed_list::FixedList;
 use guids::guid::same;
-use ready::{copies_arrived, is_passable, is_passable_for};
+use ready::{copies_arrived_for, is_passable_for};
 use rules::entry::Entry;
 use rules::state::ReleaseCounts;
 use rules::turn::GroupTurn;
@@ -53,15 +56,9 @@ fn first_of(pending: &[Entry<u32>], group: [u8; 16]) -> Option<&Entry<u32>>
 }
 
 // No set of the group is ended, and the lowest pending number is neither the next one nor are those before it ruled out, and its first entry
-// waited less than the timeout; or nothing is pending: the first repetition would stop. Asked before the group's rows are gathered: of the
-// counted rows of all groups its own are asked, and only if the number is announced.
-pub(crate) fn is_stuck(
-    turn: &GroupTurn<'_>,
-    counted: &[Pair],
-    pending: &[Entry<u32>],
-    sets: &Sets,
-) -> bool
-    ensures { (w : Work ℕ) → w.pending ≡ pending.now → w.held ≡ sets.now.held.items → w.committed ≡ turn.now.group.committed → result ≡ true → round (turn_for counted.now turn.now) w ≡ None }
+// waited less than the timeout; or nothing is pending: the first repetition would stop.
+pub(crate) fn is_stuck(turn: &GroupTurn<'_>, pending: &[Entry<u32>], sets: &Sets) -> bool
+    ensures { (w : Work ℕ) → w.pending ≡ pending.now → w.held ≡ sets.now.held.items → w.committed ≡ turn.now.group.committed → result ≡ true → round (own_turn turn.now) w ≡ None }
 {
     let guid = turn.group.guid;
     if sets.lowest_ended(guid).is_some() {
@@ -69,7 +66,7 @@ pub(crate) fn is_stuck(
     }
     match first_of(pending, guid) {
         Some(e) => turn.is_young(Some(e.time))
-            && !is_passable_for(turn, counted, turn.group.committed, e.number),
+            && !is_passable_for(turn, turn.counted, turn.group.committed, e.number),
         None => true,
     }
 }
@@ -103,13 +100,13 @@ fn count_skipped(counts: &mut ReleaseCounts, skipped: u64)
     counts.skipped_after_timeout = counts.skipped_after_timeout.saturating_add(skipped);
 }
 
-// The ended set is finished, unless it waits: whether it is.
-fn finish(turn: &GroupTurn<'_>, set: i64, sets: &mut Sets, out: &mut ArrayVec<u64, 256>) -> bool
-    requires { array_vec_len sets.old.held + array_vec_len out.old ≤ 256 }
+// The ended set is finished, unless it waits: whether it is. The turn's rows are all the group's own.
+fn finish_own(turn: &GroupTurn<'_>, set: i64, sets: &mut Sets, out: &mut ArrayVec<u64, 256>) -> bool
+    requires { len_of sets.old.held + array_vec_len out.old ≤ 256 }
     ensures waits { result ≡ not (waits (turn_as turn.now) set sets.old.held.items) }
     ensures stays { result ≡ false → (sets.new ≡ sets.old) × (out.new ≡ out.old) }
     ensures goes { result ≡ true → Goes (λ w. finish (turn_as turn.now) set w) sets.old out.old.items sets.new out.new.items }
-    ensures room { array_vec_len sets.new.held + array_vec_len out.new ≤ array_vec_len sets.old.held + array_vec_len out.old }
+    ensures room { len_of sets.new.held + array_vec_len out.new ≤ len_of sets.old.held + array_vec_len out.old }
 {
     let guid = turn.group.guid;
     if sets.is_whole(turn, set) {
@@ -123,6 +120,43 @@ fn finish(turn: &GroupTurn<'_>, set: i64, sets: &mut Sets, out: &mut ArrayVec<u6
     true
 }
 
+// The same on the group's rows, gathered from those of all groups. A function of its own, since a call sets its whole list of rows to zero.
+fn finish_gathered(
+    turn: &GroupTurn<'_>,
+    set: i64,
+    sets: &mut Sets,
+    out: &mut ArrayVec<u64, 256>,
+) -> bool
+    requires counted { length turn.now.counted.now ≤ 256 }
+    requires room { len_of sets.old.held + array_vec_len out.old ≤ 256 }
+    ensures waits { result ≡ not (waits (own_turn turn.now) set sets.old.held.items) }
+    ensures stays { result ≡ false → (sets.new ≡ sets.old) × (out.new ≡ out.old) }
+    ensures goes { result ≡ true → Goes (λ w. finish (own_turn turn.now) set w) sets.old out.old.items sets.new out.new.items }
+    ensures room { len_of sets.new.held + array_vec_len out.new ≤ len_of sets.old.held + array_vec_len out.old }
+{
+    let rows = rows_of(turn.counted, turn.group.guid);
+    let own = GroupTurn {
+        counted: rows.as_slice(),
+        ..*turn
+    };
+    finish_own(&own, set, sets, out)
+}
+
+// The same: where all rows are the group's own, they are not gathered.
+fn finish(turn: &GroupTurn<'_>, set: i64, sets: &mut Sets, out: &mut ArrayVec<u64, 256>) -> bool
+    requires counted { length turn.now.counted.now ≤ 256 }
+    requires room { len_of sets.old.held + array_vec_len out.old ≤ 256 }
+    ensures waits { result ≡ not (waits (own_turn turn.now) set sets.old.held.items) }
+    ensures stays { result ≡ false → (sets.new ≡ sets.old) × (out.new ≡ out.old) }
+    ensures goes { result ≡ true → Goes (λ w. finish (own_turn turn.now) set w) sets.old out.old.items sets.new out.new.items }
+    ensures room { len_of sets.new.held + array_vec_len out.new ≤ len_of sets.old.held + array_vec_len out.old }
+{
+    if are_of(turn.counted, turn.group.guid) {
+        return finish_own(turn, set, sets, out);
+    }
+    finish_gathered(turn, set, sets, out)
+}
+
 // The lowest pending number is committed, if it is ready or its first entry waited the timeout; else, or if nothing is pending, it stops.
 fn commit_head<'a>(
     turn: &GroupTurn<'_>,
@@ -132,11 +166,11 @@ fn commit_head<'a>(
     out: &mut ArrayVec<u64, 256>,
 ) -> Option<Progress<'a>>
     requires stands { Stands turn.now entries.now at sets.old }
-    requires room { array_vec_len sets.old.held + array_vec_len out.old + length at.rest.now ≤ 256 }
+    requires room { len_of sets.old.held + array_vec_len out.old + length at.rest.now ≤ 256 }
     requires quiet { lowest_ended turn.now.group.guid sets.old.held.items ≡ None }
     ensures goes { (v : Work ℕ) → Ended turn.now entries.now at.entry.last sets.old out.old.items v → Repeated turn.now entries.now at.entry.last result sets.new out.new.items v }
     ensures stands { Stands turn.now entries.now (unwrap_or result at.entry) sets.new }
-    ensures room { array_vec_len sets.new.held + array_vec_len out.new + length (unwrap_or result at.entry).rest.now ≤ array_vec_len sets.old.held + array_vec_len out.old + length at.entry.rest.now }
+    ensures room { len_of sets.new.held + array_vec_len out.new + length (unwrap_or result at.entry).rest.now ≤ len_of sets.old.held + array_vec_len out.old + length at.entry.rest.now }
 {
     let Some(&first) = at.rest.first() else {
         return None;
@@ -144,8 +178,8 @@ fn commit_head<'a>(
     let head = &entries[first];
     let committed = at.last.unwrap_or(turn.group.committed);
     let (heads, rest) = at.rest.split_at(head_count(entries, at.rest, head.number));
-    let ready = is_passable(turn, committed, head.number)
-        && copies_arrived(turn, head.number, entries, heads);
+    let ready = is_passable_for(turn, turn.counted, committed, head.number)
+        && copies_arrived_for(turn, turn.counted, head.number, entries, heads);
     if !ready && turn.is_young(Some(head.time)) {
         return None;
     }
@@ -175,11 +209,12 @@ fn repeat<'a>(
     sets: &mut Sets,
     out: &mut ArrayVec<u64, 256>,
 ) -> Option<Progress<'a>>
+    requires counted { length turn.now.counted.now ≤ 256 }
     requires stands { Stands turn.now entries.now at sets.old }
-    requires room { array_vec_len sets.old.held + array_vec_len out.old + length at.rest.now ≤ 256 }
+    requires room { len_of sets.old.held + array_vec_len out.old + length at.rest.now ≤ 256 }
     ensures goes { (v : Work ℕ) → Ended turn.now entries.now at.entry.last sets.old out.old.items v → Repeated turn.now entries.now at.entry.last result sets.new out.new.items v }
     ensures stands { Stands turn.now entries.now (unwrap_or result at.entry) sets.new }
-    ensures room { array_vec_len sets.new.held + array_vec_len out.new + length (unwrap_or result at.entry).rest.now ≤ array_vec_len sets.old.held + array_vec_len out.old + length at.entry.rest.now }
+    ensures room { len_of sets.new.held + array_vec_len out.new + length (unwrap_or result at.entry).rest.now ≤ len_of sets.old.held + array_vec_len out.old + length at.entry.rest.now }
 {
     let ended = if at.memory.quiet {
         None
@@ -202,13 +237,14 @@ fn repeat<'a>(
 // Repeats in the group until it stops there; answers the last number committed, if any. Up to it nothing of the group is pending then.
 pub(crate) fn release_group(
     turn: &GroupTurn<'_>,
-    pending: &ArrayVec<Entry<u32>, 256>,
+    pending: &FixedList<Entry<u32>, 256>,
     sets: &mut Sets,
     out: &mut ArrayVec<u64, 256>,
 ) -> Option<u64>
-    requires { array_vec_len sets.old.held + array_vec_len out.old + count (λ e. of_group turn.now.group.guid e) pending.now.items ≤ 256 }
+    requires counted { length turn.now.counted.now ≤ 256 }
+    requires room { len_of sets.old.held + array_vec_len out.old + count (λ e. of_group turn.now.group.guid e) pending.now.items ≤ 256 }
     ensures goes { GroupReleased turn.now pending.now.items sets.old out.old.items result sets.new out.new.items }
-    ensures room { array_vec_len sets.new.held + array_vec_len out.new + length (left turn.now.group.guid result pending.now.items) ≤ array_vec_len sets.old.held + array_vec_len out.old + array_vec_len pending.now }
+    ensures room { len_of sets.new.held + array_vec_len out.new + length (left turn.now.group.guid result pending.now.items) ≤ len_of sets.old.held + array_vec_len out.old + len_of pending.now }
 {
     let entries = pending.as_slice();
     let places = in_order(pending, turn.group.guid);

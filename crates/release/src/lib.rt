@@ -5,6 +5,7 @@
 
 mod commit;
 mod group;
+mod left;
 mod order;
 pub mod release;
 mod rows;

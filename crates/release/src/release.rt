@@ -1,22 +1,24 @@
 // Release, on lists of counted rows and digest rows.
-ghost use Rattle.std.specs.Prelude.{◌≡◌, ◌+◌, ◌<◌, ◌≤◌, ◌&&◌, not, ltb, eqb, length, true, ℕ, List};
+ghost use Rattle.std.specs.Prelude.{◌≡◌, ◌+◌, ◌<◌, ◌≤◌, ◌&&◌, not, ltb, eqb, length, true, false, ℕ, List, []};
 ghost use Rattle.arrayvec.specs.ArrayVec.{array_vec_len};
-ghost use Rattle.laws.specs.Answer.{Kept};
+ghost use Rattle.fixed_list.specs.FixedList.{len_of};
+ghost use Rattle.laws.specs.Answer.{Kept, answered};
 ghost use Rattle.laws.specs.Lists.{list_any};
 ghost use Rattle.guids.specs.Guid.{same_guid};
 ghost use Rattle.refusals.specs.Refusal.{answer_as};
-ghost use Rattle.rules.specs.Release.{malformed};
-ghost use Rattle.rules.specs.declared.view.Pair.{Pair};
+ghost use Rattle.rules.specs.Release.{malformed, samples};
 ghost use Rattle.store.specs.Store.{state_of};
 ghost use Rattle.release.specs.Released.{release_to, view_of};
-ghost use Rattle.release.specs.GroupSteps.{Steps, OwnRows};
+ghost use Rattle.release.specs.GroupSteps.{Steps, ReleasedTo};
 
 use crate::group::{is_stuck, release_group};
-use crate::rows::{are_own, rows_of};
+use crate::left::Left;
+use crate::rows::{begin_twice, rows_of};
 use arrayvec::ArrayVec;
 use guids::guid::same;
 use readings::sample_count;
 use refusals::Refusal;
+use rules::state::Group;
 use rules::turn::GroupTurn;
 use rules::view::{DigestRow, Pair};
 use store::Store;
@@ -74,33 +76,77 @@ pub fn release(
     if out.len() < sample_count(store) {
         return Err(Refusal::ListTooShort);
     }
+    let first = first_to_go(store, 0, counted, digests, time);
+    if first < store.groups.len() {
+        return Ok(release_from(store, first, counted, digests, time, out));
+    }
+    Ok(0)
+}
+
+// The place, from `from` on, of the first group whose release would not stop at once; with none, the number of groups.
+fn first_to_go(
+    store: &Store,
+    from: usize,
+    counted: &[Pair],
+    digests: &[DigestRow],
+    time: u64,
+) -> usize
+    requires { from ≤ len_of store.now.groups }
+    ensures within { (from ≤ result) × (result ≤ len_of store.now.groups) }
+    ensures reached { (s : Store) (out : List ℕ) → ReleasedTo (view_of counted.now digests.now) time from s store.now out → ReleasedTo (view_of counted.now digests.now) time result s store.now out }
+{
+    for i in from..store.groups.len() {
+        if !stops_at(store, i, counted, digests, time) {
+            return i;
+        }
+    }
+    store.groups.len()
+}
+
+// The release of the groups from a place on, where those before it stop at once; answers how many places are written. A function of its own, since a
+// call sets its whole list of places to zero, which a release that does nothing is spared.
+fn release_from(
+    store: &mut Store,
+    first: usize,
+    counted: &[Pair],
+    digests: &[DigestRow],
+    time: u64,
+    out: &mut [u64],
+) -> usize
+    requires within { first ≤ len_of store.old.groups }
+    requires reached { ReleasedTo (view_of counted.now digests.now) time first store.old store.old [] }
+    requires formed { malformed (view_of counted.now digests.now) ≡ false }
+    requires room { samples (state_of store.old) ≤ length out.old }
+    ensures { (answered result, state_of store.new, out.new) ≡ release_to (state_of store.old) (view_of counted.now digests.now) time out.old }
+{
     let mut handed = ArrayVec::new();
-    // by place, since each group's release changes the store
-    for i in 0..store.groups.len() {
+    let mut i = first;
+    while i < store.groups.len() {
         release_at(store, i, counted, digests, time, &mut handed);
+        i = first_to_go(store, i + 1, counted, digests, time);
     }
     let places = handed.as_slice();
     out[..places.len()].copy_from_slice(places);
-    Ok(places.len())
+    places.len()
 }
 
-// The release of the group at place i would stop at once: asked before its rows are gathered.
+// The release of the group at place i would stop at once.
 fn stops_at(store: &Store, i: usize, counted: &[Pair], digests: &[DigestRow], time: u64) -> bool
-    requires { i < array_vec_len store.now.groups }
+    requires { i < len_of store.now.groups }
     ensures { (out : List ℕ) → result ≡ true → Steps (view_of counted.now digests.now) time i store.now out store.now out }
 {
     let turn = GroupTurn {
         group: store.groups.as_slice()[i],
         writers: store.writers.as_slice(),
-        counted: &[],
+        counted,
         digests,
         time,
         timeout: store.timeout,
     };
-    is_stuck(&turn, counted, store.pending.as_slice(), &store.sets)
+    is_stuck(&turn, store.pending.as_slice(), &store.sets)
 }
 
-// The release of the group at place i: where it would stop at once, or where all rows are its own, they are not gathered.
+// The release of the group at place i. A row that is given over and over is asked once.
 fn release_at(
     store: &mut Store,
     i: usize,
@@ -109,24 +155,20 @@ fn release_at(
     time: u64,
     out: &mut ArrayVec<u64, 256>,
 )
-    requires within { i < array_vec_len store.old.groups }
+    requires within { i < len_of store.old.groups }
     requires counted { length counted.now ≤ 256 }
-    requires room { array_vec_len store.old.sets.held + array_vec_len out.old + array_vec_len store.old.pending ≤ 256 }
+    requires room { len_of store.old.sets.held + array_vec_len out.old + len_of store.old.pending ≤ 256 }
     ensures steps { Steps (view_of counted.now digests.now) time i store.old out.old.items store.new out.new.items }
-    ensures room { array_vec_len store.new.sets.held + array_vec_len out.new + array_vec_len store.new.pending ≤ array_vec_len store.old.sets.held + array_vec_len out.old + array_vec_len store.old.pending }
+    ensures room { len_of store.new.sets.held + array_vec_len out.new + len_of store.new.pending ≤ len_of store.old.sets.held + array_vec_len out.old + len_of store.old.pending }
 {
-    if stops_at(store, i, counted, digests, time) {
-        return;
-    }
-    let guid = store.groups.as_slice()[i].guid;
-    if are_own(counted, guid) {
-        release_own(store, i, counted, digests, time, out);
-    } else {
+    if begin_twice(counted) {
         release_gathered(store, i, counted, digests, time, out);
+    } else {
+        release_rows(store, i, counted, digests, time, out);
     }
 }
 
-// The same on the group's rows, gathered from those of all groups. A function of its own, since a call sets its whole list of rows to zero.
+// The same on the group's rows, gathered. A function of its own, since a call sets its whole list of rows to zero.
 fn release_gathered(
     store: &mut Store,
     i: usize,
@@ -135,44 +177,50 @@ fn release_gathered(
     time: u64,
     out: &mut ArrayVec<u64, 256>,
 )
-    requires within { i < array_vec_len store.old.groups }
+    requires within { i < len_of store.old.groups }
     requires counted { length counted.now ≤ 256 }
-    requires room { array_vec_len store.old.sets.held + array_vec_len out.old + array_vec_len store.old.pending ≤ 256 }
+    requires room { len_of store.old.sets.held + array_vec_len out.old + len_of store.old.pending ≤ 256 }
     ensures steps { Steps (view_of counted.now digests.now) time i store.old out.old.items store.new out.new.items }
-    ensures room { array_vec_len store.new.sets.held + array_vec_len out.new + array_vec_len store.new.pending ≤ array_vec_len store.old.sets.held + array_vec_len out.old + array_vec_len store.old.pending }
+    ensures room { len_of store.new.sets.held + array_vec_len out.new + len_of store.new.pending ≤ len_of store.old.sets.held + array_vec_len out.old + len_of store.old.pending }
 {
     let guid = store.groups.as_slice()[i].guid;
     let rows = rows_of(counted, guid);
-    release_own(store, i, rows.as_slice(), digests, time, out);
+    release_rows(store, i, rows.as_slice(), digests, time, out);
 }
 
-// The same on the group's own rows.
-fn release_own(
+// The same, where each row is asked.
+fn release_rows(
     store: &mut Store,
     i: usize,
-    rows: &[Pair],
+    counted: &[Pair],
     digests: &[DigestRow],
     time: u64,
     out: &mut ArrayVec<u64, 256>,
 )
-    requires within { i < array_vec_len store.old.groups }
-    requires room { array_vec_len store.old.sets.held + array_vec_len out.old + array_vec_len store.old.pending ≤ 256 }
-    ensures steps { (counted : List Pair) → OwnRows i store.old counted rows.now → Steps (view_of counted digests.now) time i store.old out.old.items store.new out.new.items }
-    ensures room { array_vec_len store.new.sets.held + array_vec_len out.new + array_vec_len store.new.pending ≤ array_vec_len store.old.sets.held + array_vec_len out.old + array_vec_len store.old.pending }
+    requires within { i < len_of store.old.groups }
+    requires counted { length counted.now ≤ 256 }
+    requires room { len_of store.old.sets.held + array_vec_len out.old + len_of store.old.pending ≤ 256 }
+    ensures steps { Steps (view_of counted.now digests.now) time i store.old out.old.items store.new out.new.items }
+    ensures room { len_of store.new.sets.held + array_vec_len out.new + len_of store.new.pending ≤ len_of store.old.sets.held + array_vec_len out.old + len_of store.old.pending }
 {
     let group = store.groups.as_slice()[i];
     let turn = GroupTurn {
         group,
         writers: store.writers.as_slice(),
-        counted: rows,
+        counted,
         digests,
         time,
         timeout: store.timeout,
     };
     if let Some(number) = release_group(&turn, &store.pending, &mut store.sets, out) {
-        store.groups.as_mut_slice()[i].committed = number;
-        store
-            .pending
-            .retain(|e| !same(group.guid, e.group) || number < e.number);
+        store.groups.set(
+            i,
+            Group {
+                committed: number,
+                ..group
+            },
+        );
+        let group = group.guid;
+        store.pending.retain(&Left { group, number });
     }
 }

@@ -15,24 +15,19 @@ fn is_same_row(a: &Pair, b: &Pair) -> bool
     a.reader == b.reader && same(a.writer, b.writer) && same(a.group, b.group)
 }
 
-// One stands twice, one behind the other.
-fn has_twins(rows: &[Pair]) -> bool {
-    rows.iter()
-        .zip(rows.iter().skip(1))
-        .any(|(a, b)| is_same_row(a, b))
+// The first two are the same, as where one row is given over and over.
+pub(crate) fn begin_twice(rows: &[Pair]) -> bool {
+    match rows {
+        [a, b, ..] => is_same_row(a, b),
+        _ => false,
+    }
 }
 
-fn are_of(rows: &[Pair], group: [u8; 16]) -> bool
+// All are the group's.
+pub(crate) fn are_of(rows: &[Pair], group: [u8; 16]) -> bool
     ensures { result ≡ list_all (λ p. same_guid group p.group) rows.now }
 {
     rows.iter().all(|p| same(group, p.group))
-}
-
-// All are the group's, and none stands twice, one behind the other.
-pub(crate) fn are_own(counted: &[Pair], group: [u8; 16]) -> bool
-    ensures { result ≡ true → list_all (λ p. same_guid group p.group) counted.now ≡ true }
-{
-    are_of(counted, group) && !has_twins(counted)
 }
 
 // The last one is the same.

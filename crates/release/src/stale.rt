@@ -6,7 +6,7 @@ ghost use Rattle.rules.specs.Offer.{shares};
 ghost use Rattle.rules.specs.Sets.{is_stale, lowest_stale};
 ghost use Rattle.rules.specs.Release.{discard_stale};
 ghost use Rattle.sets.specs.Works.{GoesSets};
-ghost use Rattle.arrayvec.specs.ArrayVec.{array_vec_len};
+ghost use Rattle.fixed_list.specs.FixedList.{len_of};
 
 use guids::guid::same;
 use rules::entry::Entry;
@@ -52,7 +52,7 @@ pub(crate) fn lowest_stale(sets: &Sets, e: &Entry<u32>) -> Option<i64>
 // Each of them is discarded, the lowest first.
 pub(crate) fn discard_stale(sets: &mut Sets, e: &Entry<u32>)
     ensures goes { GoesSets (λ w. discard_stale (length w.held) e.now w) sets.old sets.new }
-    ensures fewer { array_vec_len sets.new.held ≤ array_vec_len sets.old.held }
+    ensures fewer { len_of sets.new.held ≤ len_of sets.old.held }
 {
     for _ in 0..sets.held.len() {
         match lowest_stale(sets, e) {

@@ -25,7 +25,7 @@ module _ (c d : List Pair) (h : (p : Pair → Bool) → list_all p c ≡ list_al
     unfolding end_missing
     missing_same g z l = any_same (λ p. not (list_any (λ h. is_end_of g z p.writer p.reader h) l))
 
-    whole_same : (g : Guid) (z : ℤ) (l : List (Entry X)) → whole g z c l ≡ whole g z d l
+    pub whole_same : (g : Guid) (z : ℤ) (l : List (Entry X)) → whole g z c l ≡ whole g z d l
     unfolding whole
     whole_same g z l = λ i. not (missing_same g z l i) && h (λ p. agrees g z l p) i
 
@@ -39,7 +39,7 @@ module _ (c d : List Pair) (h : (p : Pair → Bool) → list_all p c ≡ list_al
         (λ e. h (λ p. not (same_guid e.writer p.writer) || list_any (λ o. eqb p.reader o.reader) (head_of (with_counted c t) n l) || pair_past (with_counted c t) p.writer p.reader n) i)
         (head_of (with_counted c t) n l)
 
-    waits_same : (t : Turn) (z : ℤ) (l : List (Entry X)) → waits (with_counted c t) z l ≡ waits (with_counted d t) z l
+    pub waits_same : (t : Turn) (z : ℤ) (l : List (Entry X)) → waits (with_counted c t) z l ≡ waits (with_counted d t) z l
     unfolding waits with_counted young
     waits_same t z l = ap (λ b. b && young (with_counted c t) (find (λ e. is_member t.guid z e) l)) (missing_same t.guid z l)
 

@@ -2,6 +2,8 @@
 ghost use Rattle.std.specs.Prelude.{◌≡◌};
 ghost use Rattle.rules.specs.Entry.{is_sample};
 
+use fixed_list::Blank;
+
 // The end of a coherent set: its writer's first number in the set, and its own.
 #[derive(Clone, Copy, PartialEq, Eq, Debug)]
 pub struct SetEnd {
@@ -33,6 +35,36 @@ pub struct Entry<T> {
     pub time: u64,
     // of a kept end whose set is ended: when the set's first committed end was offered
     pub ended: Option<u64>,
+}
+
+// In the free places of a list of entries.
+impl Blank for Entry<u32> {
+    ghost use Rattle.std.specs.Prelude.{None, replicate};
+    ghost use Rattle.rules.specs.declared.entry.What.TheVariants.{Sample};
+
+    ghost blank = { record {
+      group = replicate 16 0;
+      writer = replicate 16 0;
+      reader = 0;
+      number = 0;
+      set = None;
+      what = Sample 0;
+      time = 0;
+      ended = None;
+    } };
+
+    fn blank() -> Entry<u32> {
+        Entry {
+            group: [0; 16],
+            writer: [0; 16],
+            reader: 0,
+            number: 0,
+            set: None,
+            what: What::Sample(0),
+            time: 0,
+            ended: None,
+        }
+    }
 }
 
 impl<T> Entry<T> {

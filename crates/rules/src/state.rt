@@ -3,6 +3,7 @@ ghost use Rattle.std.specs.Prelude.{◌≡◌};
 ghost use Rattle.rules.specs.Marks.{raise, saw, gapped, announced, announced_to};
 ghost use Rattle.rules.specs.State.{new_group, new_writer, is_group, is_writer};
 
+use fixed_list::Blank;
 use guids::guid::same;
 
 // A known group: its highest number committed or passed, and the highest that a heartbeat announced.
@@ -11,6 +12,17 @@ pub struct Group {
     pub guid: [u8; 16],
     pub committed: u64,
     pub announced: u64,
+}
+
+// In the free places of a list of groups.
+impl Blank for Group {
+    ghost use Rattle.std.specs.Prelude.{replicate};
+
+    ghost blank = { new_group (replicate 16 0) };
+
+    fn blank() -> Group {
+        Group::new([0; 16])
+    }
 }
 
 impl Group {
@@ -64,6 +76,17 @@ fn raise(marks: &mut [u64; 8], reader: u8, n: u64)
     let r = usize::from(reader);
     if r < 8 {
         marks[r] = marks[r].max(n);
+    }
+}
+
+// In the free places of a list of pairs.
+impl Blank for Writer {
+    ghost use Rattle.std.specs.Prelude.{replicate};
+
+    ghost blank = { new_writer (replicate 16 0) (replicate 16 0) };
+
+    fn blank() -> Writer {
+        Writer::new([0; 16], [0; 16])
     }
 }
 

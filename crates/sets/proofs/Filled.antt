@@ -1,7 +1,7 @@
 -- A list that is filled as far as it has room.
 use Rattle.std.proofs.Common.{◌≡◌, refl, ℕ, ◌+◌, List, [], ◌∷◌, ◌++◌, ◌<◌, length, take, sym, ap, ◌∙◌, arith, length-append}
 use Rattle.std.specs.Prelude.{Option, Result, Ok, Err, IsOk, OnErr, OnOk, ◌↔◌}
-use Rattle.arrayvec.specs.ArrayVec.{ArrayVec}
+use Rattle.fixed_list.specs.FixedList.{FixedList}
 use Rattle.std.specs.Result.{MatchResult}
 use Rattle.std.specs.Iterator.{Drains, Yields}
 use Rattle.std.proofs.lemmas.Iterator.{YieldsList}
@@ -30,7 +30,7 @@ filled {T} {steps = steps} n room old new all r ran full fits road =
     is ∙ sym (ap (λ k. take k (old ++ all)) (omega (arith, fits)) ∙ take-append-add old all room)
 
 -- one is put behind those that are there, where it has room
-pub pushed : {A E : Type 0} (n : ℕ) (old new : ArrayVec A) (a : A) (r : Result (Unit {0}) E)
+pub pushed : {A E : Type 0} (n : ℕ) (old new : FixedList A) (a : A) (r : Result (Unit {0}) E)
     → (IsOk r ↔ (length old.items < n)) → OnOk r (new.items ≡ old.items ++ (a ∷ [])) → OnErr r (new ≡ old) → OnErr r (length old.items ≡ n) → new.items ≡ take n (old.items ++ (a ∷ []))
 pushed n old new a (Ok u) v p q k = p ∙ sym (take_all n (old.items ++ (a ∷ [])) (omega (arith, v.0 refl, length-append old.items (a ∷ []))))
 pushed n old new a (Err e) v p q k = ap (λ x. x.items) q ∙ sym (ap (λ m. take m (old.items ++ (a ∷ []))) (sym k) ∙ take-append_seam old.items (a ∷ []))

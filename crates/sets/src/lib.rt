@@ -13,6 +13,7 @@ ghost use Rattle.rules.specs.State.{no_counts};
 ghost use Rattle.rules.specs.GroupTurn.{turn_as};
 
 use arrayvec::ArrayVec;
+use fixed_list::{FixedList, Keep};
 use guids::guid::same;
 use rules::entry::Entry;
 use rules::state::ReleaseCounts;
@@ -25,10 +26,45 @@ pub use entry::{place_of, replaces, shares};
 use entry::{end_agrees, is_end_of, is_in, is_member, is_of_pair};
 
 // The entries in the order in which they were committed or joined.
-#[derive(Drop)]
+#[derive(Clone, Copy)]
 pub struct Sets {
-    pub held: ArrayVec<Entry<u32>, 256>,
+    pub held: FixedList<Entry<u32>, 256>,
     pub counts: ReleaseCounts,
+}
+
+// The entries that an end does not replace.
+#[derive(Drop)]
+struct Beside {
+    end: Entry<u32>,
+}
+
+impl Keep<Entry<u32>> for Beside {
+    ghost use Rattle.std.specs.Prelude.{not};
+    ghost use Rattle.rules.specs.Offer.{replaced};
+
+    ghost keeps = { λ b h. not (replaced b.end h) };
+
+    fn keeps(&self, h: &Entry<u32>) -> bool {
+        !replaces(&self.end, h)
+    }
+}
+
+// The entries of other sets.
+#[derive(Drop)]
+struct Outside {
+    group: [u8; 16],
+    set: i64,
+}
+
+impl Keep<Entry<u32>> for Outside {
+    ghost use Rattle.std.specs.Prelude.{not};
+    ghost use Rattle.rules.specs.Entry.{in_set};
+
+    ghost keeps = { λ o h. not (in_set o.group o.set h) };
+
+    fn keeps(&self, h: &Entry<u32>) -> bool {
+        !is_in(h, self.group, self.set)
+    }
 }
 
 // The lower of two numbers that may be absent. Not std's `min`, to which an absent one is the lower.
@@ -63,7 +99,7 @@ impl Sets {
         ensures counts { result.counts ≡ no_counts }
     {
         Sets {
-            held: ArrayVec::new(),
+            held: FixedList::new(),
             counts: ReleaseCounts::default(),
         }
     }
@@ -189,16 +225,17 @@ impl Sets {
         ensures held { self.new.held.items ≡ take 256 (keep_end ended e self.old.held.items) }
         ensures counts { self.new.counts ≡ self.old.counts }
     {
-        self.held.retain(|h| !replaces(&e, h));
+        self.held.retain(&Beside { end: e });
         let _ = self.held.try_push(Entry { ended, ..e });
     }
 
     // The set's entries leave.
+    #[tactic(auto, unfolding(rules::specs::Sets::without))]
     fn remove(&mut self, group: [u8; 16], set: i64)
         ensures held { self.new.held.items ≡ without group set self.old.held.items }
         ensures counts { self.new.counts ≡ self.old.counts }
     {
-        self.held.retain(|h| !is_in(h, group, set));
+        self.held.retain(&Outside { group, set });
     }
 
     // The set's entries leave, its members discarded.

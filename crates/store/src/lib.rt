@@ -2,23 +2,23 @@
 #![tactic(auto)]
 
 ghost use Rattle.std.specs.Prelude.{◌≡◌, ◌+◌, ◌≤◌, leb};
-ghost use Rattle.arrayvec.specs.ArrayVec.{array_vec_len};
+ghost use Rattle.fixed_list.specs.FixedList.{len_of};
 
-use arrayvec::ArrayVec;
+use fixed_list::FixedList;
 use rules::entry::Entry;
 use rules::state::{Group, Writer};
 use sets::Sets;
 
 // The groups in the order of their GUIDs, the pending entries in the order of their offers. The timeout is in nanoseconds. At most 256 entries
 // are stored.
-#[derive(Drop)]
+#[derive(Clone, Copy)]
 pub struct Store {
     pub timeout: u64,
-    pub groups: ArrayVec<Group, 8>,
-    pub writers: ArrayVec<Writer, 32>,
-    pub pending: ArrayVec<Entry<u32>, 256>,
+    pub groups: FixedList<Group, 8>,
+    pub writers: FixedList<Writer, 32>,
+    pub pending: FixedList<Entry<u32>, 256>,
     pub sets: Sets,
-    ghost few: { array_vec_len pending + array_vec_len sets.held ≤ 256 },
+    ghost few: { len_of pending + len_of sets.held ≤ 256 },
 }
 
 impl Store {
@@ -32,9 +32,9 @@ impl Store {
     {
         Store {
             timeout,
-            groups: ArrayVec::new(),
-            writers: ArrayVec::new(),
-            pending: ArrayVec::new(),
+            groups: FixedList::new(),
+            writers: FixedList::new(),
+            pending: FixedList::new(),
             sets: Sets::new(),
         }
     }

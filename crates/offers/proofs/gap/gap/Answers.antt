@@ -1,6 +1,5 @@
-use Rattle.std.proofs.Common.{◌∙◌, sym, ap, rules, ltb, [], ◌∷◌}
+use Rattle.std.proofs.Common.{◌∙◌, sym, rules, ltb, [], ◌∷◌}
 use Rattle.std.proofs.lemmas.Result.{err_from_is_err_and}
-use Rattle.laws.specs.Answer.{answered}
 use Rattle.rules.specs.Marks.{number, gapped}
 use Rattle.rules.specs.Offer.{gap}
 use Rattle.offers.proofs.Refusing.{refused_first, refused_then, is_refused, is_done}

@@ -1,6 +1,5 @@
-use Rattle.std.proofs.Common.{◌≡◌, ◌∙◌, sym, ap, rules, Some}
+use Rattle.std.proofs.Common.{◌≡◌, sym, rules, Some}
 use Rattle.std.proofs.lemmas.Result.{err_from_is_err_and}
-use Rattle.laws.specs.Answer.{answered}
 use Rattle.laws.specs.Lists.{change}
 use Rattle.std.specs.List.{position}
 use Rattle.rules.specs.declared.state.Writer.{Writer}

@@ -1,23 +1,31 @@
-use Rattle.std.proofs.Common.{◌+◌, ◌<◌, ap, rules, arith, length}
+use Rattle.std.proofs.Common.{◌≡◌, ℕ, ◌+◌, ◌<◌, ap, arith, length, false}
+use Rattle.std.specs.Prelude.{◌&&◌, leb}
 use borrow.Author.Tests.{leb-false}
-use Rattle.rules.specs.State.{stored}
-use Rattle.rules.specs.Offer.{entry_of, adds}
+use Rattle.rules.specs.State.{State, stored}
+use Rattle.rules.specs.declared.call.Offer.{Offer}
+use Rattle.rules.specs.declared.call.Fate.TheVariants.{Stored}
+use Rattle.store.specs.Store.{state_of}
+use Rattle.rules.specs.Offer.{entry_of, adds, place}
 use Rattle.offers.proofs.Joining.{room_to_join, length-join}
 use Rattle.offers.proofs.offer.place.Goals as goal
 
-pub push-requires : goal.push-requires
+-- room for one more
+fits : (s : State ℕ) (o : Offer ℕ) → adds Stored s o && leb 256 (stored s) ≡ false → length s.pending + length s.held < 256
 unfolding adds stored
-push-requires c =
-    let s = c.args.store.now in
-    let room : length s.pending.items + length s.sets.held.items < 256 = leb-false 256 (length s.pending.items + length s.sets.held.items) (rw c.in-Stored.is at c.requires) in
-    (search rules, omega arith)
+fits s o h = leb-false 256 (length s.pending + length s.held) h
 
 pub invariant_of-store : goal.invariant_of-store
-unfolding adds stored
 invariant_of-store c =
     let s = c.args.store.now in
-    let room : length s.pending.items + length s.sets.held.items < 256 = leb-false 256 (length s.pending.items + length s.sets.held.items) (rw c.in-Stored.is at c.requires) in
-    record { few = omega (arith, c.push.ensures.len) }
+    let room = fits (state_of s) c.args.o (rw c.in-Stored.is at c.requires) in
+    record { few = omega (arith, c.push.ensures.len (omega arith)) }
+
+pub returns-in-Stored : goal.returns-in-Stored
+unfolding place
+returns-in-Stored c =
+    let s = c.args.store.now in
+    let room = fits (state_of s) c.args.o (rw c.in-Stored.is at c.requires) in
+    rw (c.in-Stored.is, c.push.ensures.items (omega arith), c.entry_of.ensures)
 
 pub join-requires : goal.join-requires
 unfolding adds stored

@@ -1,7 +1,7 @@
 use Rattle.std.proofs.Common.{rules, arith, ℕ, ◌≡◌, ◌+◌, ◌≤◌, sym, ap, subst, length, unwrap_or, List, Option, None, Some}
 use Rattle.laws.specs.Lists.{count}
 use Rattle.rules.specs.Release.{Work}
-use Rattle.rules.specs.GroupTurn.{turn_as}
+use Rattle.release.specs.OwnTurn.{own_turn}
 use Rattle.rules.specs.declared.entry.Entry.{Entry}
 use Rattle.release.specs.Order.{by_number, Lists}
 use Rattle.release.specs.GroupReleased.{Ended}
@@ -15,9 +15,9 @@ use Rattle.release.proofs.group.release_group.Goals as goal
 pub loop-init : goal.loop-init
 unfolding count
 loop-init c =
-    let l : Lists c.args.pending.now.items (by_number (own (turn_as c.args.turn.now) c.args.pending.now.items)) c.as_slice.result.now =
-    subst (λ (is : List ℕ). Lists c.args.pending.now.items (by_number (own (turn_as c.args.turn.now) c.args.pending.now.items)) is) (sym c.as_slice.ensures.value) c.in_order-places.ensures in
-    let n = listed_length c.args.pending.now.items (own (turn_as c.args.turn.now) c.args.pending.now.items) c.as_slice.result.now l in
+    let l : Lists c.args.pending.now.items (by_number (own (own_turn c.args.turn.now) c.args.pending.now.items)) c.as_slice.result.now =
+    subst (λ (is : List ℕ). Lists c.args.pending.now.items (by_number (own (own_turn c.args.turn.now) c.args.pending.now.items)) is) (sym c.as_slice.ensures.value) c.in_order-places.ensures in
+    let n = listed_length c.args.pending.now.items (own (own_turn c.args.turn.now) c.args.pending.now.items) c.as_slice.result.now l in
     record {
       stands = record { listed = l; known = known_nothing c.args.turn.now.group.guid c.default.result c.args.sets.now.held.items c.default.ensures.0 c.default.ensures.1.0 };
       room = omega (arith, n);

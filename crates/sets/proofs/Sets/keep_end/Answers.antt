@@ -1,6 +1,5 @@
-use Rattle.std.proofs.Common.{◌∙◌, ◌++◌, ◌∷◌, [], ap, take, not, rules, tests}
-use Rattle.arrayvec.proofs.ArrayVecLemmas.{filter-from_retain}
-use Rattle.rules.specs.Offer.{replaced, marked, keep_end}
+use Rattle.std.proofs.Common.{◌∙◌, ◌++◌, ◌∷◌, [], ap, take}
+use Rattle.rules.specs.Offer.{marked, keep_end}
 use Rattle.sets.proofs.Filled.{pushed}
 use Rattle.sets.proofs.Sets.keep_end.Goals as goal
 
@@ -9,4 +8,4 @@ unfolding keep_end marked
 returns-clause-held c =
     let p = c.try_push in
     pushed 256 c.retain.new.self p.new.self (marked c.args.ended c.args.e) p.result p.ensures.variant p.ensures.ok p.ensures.err p.ensures.full
-    ∙ ap (λ l. take 256 (l ++ (marked c.args.ended c.args.e ∷ []))) (filter-from_retain _ (λ h. not (replaced c.args.e h)) _ (λ x b f' y k. search (rules, tests)) _ _ c.retain.ensures.filtered)
+    ∙ ap (λ l. take 256 (l ++ (marked c.args.ended c.args.e ∷ []))) c.retain.ensures.items

@@ -1,49 +1,26 @@
-use Prim.Native.Nat.{◌<◌}
-use lib.ListN.{length, take, get_or}
-use lib.Seq.{take_all}
-use mathlib.Core.Bool.{true, false, cond}
-use mathlib.Core.List.{[], ◌∷◌, ◌++◌, append-nil}
-use mathlib.Core.Path.{◌≡◌, sym, ap, ◌∙◌}
-use native.Mathlib.Omega.{arith}
-use Rattle.laws.specs.Lists.{filter}
+-- No more are due than are held.
+use Rattle.std.proofs.Common.{◌<◌, ap, length, arith, append-nil}
+use Rattle.std.proofs.lemmas.List.Sums.{length-filter, count_by-le-length}
+use Rattle.std.proofs.lemmas.List.{length-take}
+use Rattle.std.proofs.lemmas.List.Elements.{filter_more}
+use Rattle.std.proofs.lemmas.Grind.{common_steps}
+use Rattle.filter_hold.specs.declared.tbf.Held.{Held}
 use Rattle.filter_hold.specs.Tbf.{due_at, not_after}
-use Rattle.filter_hold.proofs.TbfLaws.{free, keep_next}
-use Rattle.filter_hold.proofs.tbf.TbfHold.due_at.Goals as goal
+use Rattle.filter_hold.proofs.TbfLaws.{free}
 use Rattle.filter_hold.proofs.tbf.TbfHold.due_at.Goals.{then-is_due, else-is_due}
-
-pub loop-x-init : goal.loop-x-init
-unfolding due_at
-loop-x-init c = record { taken = c.new-due.ensures; few = simp c.new-due.ensures (omega arith) }
-
-pub push-requires : goal.push-requires
-push-requires c = omega (arith, c.deref-x-items.ensures.1)
+use Rattle.filter_hold.proofs.tbf.TbfHold.due_at.Goals as goal
 
 pub loop-x-preserved : goal.loop-x-preserved
-unfolding due_at
 loop-x-preserved c =
     let s = c.loop-x in
-    let l = c.args.self.now.held.items in
-    let x = get_or l s.x-index free in
-    let e : c.deref-x-items.result.now ≡ l = c.deref-x-items.ensures.0 in
-    let h : s.x-index < length l = rw (← e) c.loop-x-test.true in
-    let next = keep_next (λ x. not_after x.due c.args.time) l s.x-index free h in
+    let there : s.x-index < length c.args.self.now.held.items = rw (← c.deref-x-items.ensures.0) c.loop-x-test.true in
+    let next = filter_more (λ x. not_after x.due c.args.time) c.args.self.now.held.items s.x-index free there in
+    let room : length s.due.items < 32 = omega (arith, ap length s.invariant, length-filter, count_by-le-length, length-take {A = Held}, c.deref-x-items.ensures.1) in
     elim c.if-is_due.branch [
-      | then-is_due w ↦
-          let test : not_after x.due c.args.time ≡ true = rw (← e) (sym c.is_due.ensures ∙ w.if-is_due.true) in
-          let put : c.if-is_due.due.items ≡ s.due.items ++ (x ∷ []) = ap (λ v. v.items) w.due-is ∙ rw (← e) w.push.ensures.items in
-          record {
-            taken = put ∙ ap (λ m. m ++ (x ∷ [])) s.invariant.taken ∙ sym (next ∙ ap (λ b. filter (λ x. not_after x.due c.args.time) (take s.x-index l) ++ cond b (x ∷ []) []) test);
-            few = omega (arith, w.push.ensures.len, ap (λ v. length v.items) w.due-is);
-          }
-      | else-is_due w ↦
-          let test : not_after x.due c.args.time ≡ false = rw (← e) (sym c.is_due.ensures ∙ w.if-is_due.false) in
-          record {
-            taken = ap (λ v. v.items) w.due-is ∙ s.invariant.taken ∙ sym (next ∙ ap (λ b. filter (λ x. not_after x.due c.args.time) (take s.x-index l) ++ cond b (x ∷ []) []) test ∙ append-nil _);
-            few = omega (arith, ap (λ v. length v.items) w.due-is);
-          }
+      | then-is_due w ↦ rw (w.due-is, w.push.ensures.items room, s.invariant, next, ← c.deref-x-items.ensures.0, ← c.is_due.ensures, w.if-is_due.true)
+      | else-is_due w ↦ rw (w.due-is, s.invariant, next, ← c.deref-x-items.ensures.0, ← c.is_due.ensures, w.if-is_due.false, append-nil)
     ]
 
 pub returns : goal.returns
-returns c =
-    c.loop-x.invariant.taken
-    ∙ ap (λ l. due_at c.args.time l) (take_all c.loop-x.x-index c.args.self.now.held.items (rw (← c.deref-x-items.ensures.0) (omega arith)))
+unfolding due_at
+returns c = grind (arith, common_steps)

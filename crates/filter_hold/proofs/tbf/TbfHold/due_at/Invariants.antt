@@ -1,9 +1,7 @@
 -- `tbf::TbfHold::due_at` meets its contract: those due of the first ones.
-use lib.ListN.{take, length}
-use mathlib.Core.Path.{◌≡◌}
-use Prim.Native.Nat.{◌≤◌}
-use Rattle.filter_hold.specs.Tbf.{due_at}
+use Rattle.std.proofs.Common.{◌≡◌, take, filter}
+use Rattle.filter_hold.specs.Tbf.{not_after}
 use Rattle.filter_hold.proofs.tbf.TbfHold.due_at.Given as goal
 
 abbrev pub invariant-loop-x : goal.invariant-loop-x
-invariant-loop-x l = record { taken : l.due.items ≡ due_at l.time (take l.x-index l.self.held.items); few : length l.due.items ≤ l.x-index }
+invariant-loop-x l = l.due.items ≡ filter (λ x. not_after x.due l.time) (take l.x-index l.self.held.items)

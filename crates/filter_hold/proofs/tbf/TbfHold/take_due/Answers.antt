@@ -3,13 +3,10 @@ use Prim.Native.Nat.{◌/◌, ◌+◌, ◌*◌, ◌≤◌}
 use lib.ListN.{length}
 use lib.Seq.{take_all}
 use mathlib.Core.Path.{◌≡◌, refl, sym, ap, ◌∙◌}
-use mathlib.Core.Bool.{not}
 use native.Mathlib.Omega.{arith}
-use borrow.Author.Rules.{rules}
 use borrow.Author.Tests.{lt-ltb, le-ltb}
-use Rattle.std.proofs.lemmas.Fn.{filter_same}
 use Rattle.laws.specs.Answer.{Kept}
-use Rattle.filter_hold.specs.Tbf.{not_after, due_at, not_due_at, words, written, take_due}
+use Rattle.filter_hold.specs.Tbf.{due_at, not_due_at, words, written, take_due}
 use Rattle.filter_hold.proofs.TbfLaws.{free, written_at}
 use Rattle.filter_hold.proofs.tbf.TbfHold.take_due.Goals as goal
 
@@ -39,8 +36,7 @@ returns c =
     let l = a.self.now.held.items in
     let d = c.due_at-due.ensures in
     let n : c.len.result ≡ length (due_at a.time l) = c.len.ensures.value ∙ ap length d in
-    let left : c.retain.new.self.items ≡ not_due_at a.time l = filter_same _ (λ x. not (not_after x.due a.time)) _ (λ x b f' called. search rules) _ _ c.retain.ensures.filtered in
     let out : c.loop-k.out ≡ written (due_at a.time l) a.out.now =
     c.loop-k.invariant
     ∙ ap (λ m. written m a.out.now) (take_all c.loop-k.k c.deref-x-items.result.now c.loop-k-test.false ∙ c.deref-x-items.ensures.0 ∙ d) in
-    record { is = rw (le-ltb (length a.out.now / 2) (length (due_at a.time l)) (omega arith), left, out, c.len-2.ensures.value, d); kept = tt }
+    record { is = rw (le-ltb (length a.out.now / 2) (length (due_at a.time l)) (omega arith), c.retain.ensures.items, out, c.len-2.ensures.value, d); kept = tt }

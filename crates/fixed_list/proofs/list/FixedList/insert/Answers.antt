@@ -17,8 +17,8 @@ invariant_of-self g c =
       drop_front c.last_to.new.items places (inside.len + 1) long ∙ one_fewer g.row.N g.T.Blank.blank inside.places inside.len c.args.item c.self.invariant.2,
     )
 
-pub returns-clause-items : goal.returns-clause-items
-returns-clause-items g c =
+pub returns-then-len-clause-items : goal.returns-then-len-clause-items
+returns-then-len-clause-items g c = λ _.
     let inside = c.self.inside in
     let places = set inside.places inside.len c.args.item in
     let room : inside.len < g.row.N = search rules in

@@ -1,4 +1,4 @@
-use Rattle.std.proofs.Common.{◌≡◌, ◌∙◌, sym, ap, refl, []}
+use Rattle.std.proofs.Common.{◌∙◌, sym, ap, refl, []}
 use Rattle.rules.specs.declared.state.Group.{Group}
 use Rattle.rules.specs.State.{committed_of, committed_in, is_group}
 use Rattle.offers.proofs.Hearing.{find_found, find_none}

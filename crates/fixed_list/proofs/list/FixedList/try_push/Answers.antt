@@ -1,7 +1,7 @@
--- `push`: the places behind the new item stay blank.
+-- `try_push`: the places behind the new item stay blank.
 use Rattle.std.proofs.Common.{rules}
 use Rattle.fixed_list.proofs.Free.{one_fewer}
-use Rattle.fixed_list.proofs.list.FixedList.push.Goals as goal
+use Rattle.fixed_list.proofs.list.FixedList.try_push.Goals as goal
 
 pub invariant_of-self : goal.invariant_of-self
 invariant_of-self g c =
