@@ -13,22 +13,23 @@ use Rattle.std.proofs.lemmas.List.{set-get_or, get_or_default, take_more, length
 use Rattle.std.proofs.Math.Seq.{drop-cons, get_or_at, set_at}
 use Rattle.laws.specs.Answer.{answered}
 use Rattle.laws.specs.Lists.{filter, count}
-use Rattle.guids.specs.Guid.{Guid}
+use Rattle.guids.specs.Guid.{Guid, same_guid}
 use Rattle.rules.specs.declared.view.Pair.{Pair}
 use Rattle.rules.specs.declared.view.DigestRow.{DigestRow}
+use Rattle.rules.proofs.SameRows.{with_counted, rounds_same}
+use Rattle.release.specs.Rows.{SameRows}
 use Rattle.rules.specs.Entry.{of_group, is_sample}
 use Rattle.rules.specs.Offer.{refusal}
 use Rattle.rules.specs.Run.{place_of}
 use Rattle.rules.specs.declared.entry.Entry.{Entry}
 use Rattle.rules.specs.declared.state.Group.{Group}
 use Rattle.rules.specs.Commit.{Turn}
-use Rattle.rules.proofs.Turns.{stopped}
-use Rattle.rules.specs.Release.{View, Work, enough, round, rounds, turn_of, committed_at, at_group, release_group, release_all, work_of, back_to, released, samples, malformed, release_refusal, release}
-use Rattle.release.specs.OwnTurn.{own_turn}
+use Rattle.rules.specs.Release.{View, Work, enough, round, turn_of, committed_at, at_group, release_group, release_all, work_of, back_to, released, samples, malformed, release_refusal, release}
+use Rattle.rules.specs.GroupTurn.{turn_as}
+use Rattle.release.specs.OwnTurn.{own_turn, with_own_rows}
 use Rattle.rules.specs.declared.turn.GroupTurn.{GroupTurn}
 use Rattle.store.specs.Store.{state_of}
 use Rattle.store.specs.declared.Store.{Store}
-use Rattle.sets.specs.Works.{Carries}
 use Rattle.release.specs.Left.{left}
 use Rattle.release.specs.GroupReleased.{GroupReleased}
 use Rattle.release.specs.Released.{view_of, release_to}
@@ -37,13 +38,14 @@ use Rattle.laws.proofs.Lists.{keep_same, count_le, count_all}
 use Rattle.rules.proofs.Stays.{released_stays}
 use Rattle.rules.proofs.Conserve.{stock, OnlySamples, only_samples, released_stock}
 use Rattle.release.proofs.Sorted.{Entries}
+use Rattle.release.proofs.Repeats.{stuck_released}
 use Rattle.release.proofs.Finishing.{placed}
 
 -- ---- one group
 
 module _ (t : GroupTurn) (i : ℕ) (d : Group) (s u : Store) (o p : List ℕ) (r : Option ℕ) where
   group_step : GroupReleased t s.pending.items s.sets o r u.sets p → u.pending.items ≡ left t.group.guid r s.pending.items
-      → u.groups.items ≡ slice_set s.groups.items i (committed_at (unwrap_or r t.group.committed) t.group) → (w : Work ℕ) → Leaves s o w → GroupStep i s u p t.group (release_group (own_turn t) t.group w)
+      → u.groups.items ≡ slice_set s.groups.items i (committed_at (unwrap_or r t.group.committed) t.group) → (w : Work ℕ) → Leaves s o w → GroupStep i s u p t.group (release_group (turn_as t) t.group w)
   unfolding release_group at_group enough
   group_step f q h w x =
       let e = f (at_group t.group w) (sym x.pending) refl (record { held = x.carries.held; counts = x.carries.counts; out = x.carries.out }) in
@@ -52,44 +54,40 @@ module _ (t : GroupTurn) (i : ℕ) (d : Group) (s u : Store) (o p : List ℕ) (r
         groups = h ∙ ap (λ n. slice_set s.groups.items i (committed_at n t.group)) (sym e.committed);
       }
 
--- what is asked of the group at place i is what the definition asks
-module _ (t : GroupTurn) (i : ℕ) (d : Group) (s u : Store) (o p : List ℕ) (l : i < length s.groups.items) (g : t.group ≡ get_or s.groups.items i d) (ws : t.writers.now ≡ s.writers.items) (k : t.timeout ≡ s.timeout) where
-  asked_is : own_turn t ≡ turn_in (view_of t.counted.now t.digests.now) t.time s t.group
-  unfolding turn_of
-  asked_is = ap (λ x. turn_of (view_of t.counted.now t.digests.now) t.time t.timeout x t.group) ws ∙ ap (λ x. turn_of (view_of t.counted.now t.digests.now) t.time x s.writers.items t.group) k
+  module _ (cs : List Pair) (same_rows : SameRows (filter (λ q. same_guid t.group.guid q.group) cs) t.counted.now) where
+    turn_is : t.writers.now ≡ s.writers.items → t.timeout ≡ s.timeout
+        → with_counted (filter (λ q. same_guid t.group.guid q.group) cs) (turn_as t) ≡ turn_in (view_of cs t.digests.now) t.time s t.group
+    unfolding turn_of with_counted
+    turn_is a b = ap (λ ws. turn_of (view_of cs t.digests.now) t.time t.timeout ws t.group) a ∙ ap (λ k. turn_of (view_of cs t.digests.now) t.time k s.writers.items t.group) b
 
-  steps : ((w : Work ℕ) → Leaves s o w → GroupStep i s u p t.group (release_group (own_turn t) t.group w)) → u.writers.items ≡ s.writers.items → u.timeout ≡ s.timeout → Steps (view_of t.counted.now t.digests.now) t.time i s o u p
-  steps f a b = record {
-    step = λ y e w x.
-        let same : t.group ≡ y = g ∙ get_or_default s.groups.items i d y l ∙ e in
-        subst (λ z. GroupStep i s u p z (release_group (turn_in (view_of t.counted.now t.digests.now) t.time s z) z w)) same
-        (subst (λ T. GroupStep i s u p t.group (release_group T t.group w)) asked_is (f w x));
-    writers = a;
-    timeout = b;
-  }
+    -- rows that stand several times change nothing
+    alike : t.writers.now ≡ s.writers.items → t.timeout ≡ s.timeout → (w : Work ℕ) → release_group (turn_as t) t.group w ≡ release_group (turn_in (view_of cs t.digests.now) t.time s t.group) t.group w
+    unfolding release_group with_counted enough at_group
+    alike a b w =
+        sym (rounds_same _ t.counted.now same_rows (enough (at_group t.group w)) (turn_as t) (at_group t.group w))
+        ∙ ap (λ T. release_group T t.group w) (turn_is a b)
 
-  pub stepped : (r : Option ℕ) → GroupReleased t s.pending.items s.sets o r u.sets p → u.pending.items ≡ left t.group.guid r s.pending.items
-      → u.groups.items ≡ slice_set s.groups.items i (committed_at (unwrap_or r t.group.committed) t.group) → u.writers.items ≡ s.writers.items → u.timeout ≡ s.timeout
-      → Steps (view_of t.counted.now t.digests.now) t.time i s o u p
-  stepped r f q h a b = steps (group_step t i d s u o p r f q h) a b
+    pub stepped : i < length s.groups.items → t.group ≡ get_or s.groups.items i d → t.writers.now ≡ s.writers.items → t.timeout ≡ s.timeout
+        → GroupReleased t s.pending.items s.sets o r u.sets p → u.pending.items ≡ left t.group.guid r s.pending.items
+        → u.groups.items ≡ slice_set s.groups.items i (committed_at (unwrap_or r t.group.committed) t.group) → u.writers.items ≡ s.writers.items → u.timeout ≡ s.timeout
+        → Steps (view_of cs t.digests.now) t.time i s o u p
+    stepped l g ws k f q h a b = record {
+      step = λ y e w x.
+          let same : t.group ≡ y = g ∙ get_or_default s.groups.items i d y l ∙ e in
+          subst (λ z. GroupStep i s u p z (release_group (turn_in (view_of cs t.digests.now) t.time s z) z w)) same
+          (subst (λ v. GroupStep i s u p t.group v) (alike ws k w) (group_step f q h w x));
+      writers = a;
+      timeout = b;
+    }
 
 -- a group at which no repetition goes on is left as it is
 module _ (t : GroupTurn) (i : ℕ) (d : Group) (s : Store) (o : List ℕ) (l : i < length s.groups.items) (g : t.group ≡ get_or s.groups.items i d) (ws : t.writers.now ≡ s.writers.items) (k : t.timeout ≡ s.timeout)
     (stuck : (w : Work ℕ) → w.pending ≡ s.pending.items → w.held ≡ s.sets.held.items → w.committed ≡ t.group.committed → round (own_turn t) w ≡ None) where
-  stays : (w : Work ℕ) → Leaves s o w → GroupStep i s s o t.group (release_group (own_turn t) t.group w)
-  unfolding release_group at_group committed_at enough
-  stays w x =
-      let v : Work ℕ = at_group t.group w in
-      let e : rounds (enough v) (own_turn t) v ≡ v = stopped (own_turn t) v (enough v) (stuck v (sym x.pending) (sym x.carries.held) refl) in
-      let c : Carries s.sets o v = record { held = x.carries.held; counts = x.carries.counts; out = x.carries.out } in
-      subst (λ z. GroupStep i s s o t.group z) (sym e)
-      (record {
-        leaves = record { carries = c; pending = x.pending };
-        groups = sym (ap (λ y. slice_set s.groups.items i y) g ∙ set-get_or s.groups.items i d);
-      })
-
   pub stuck_step : Steps (view_of t.counted.now t.digests.now) t.time i s o s o
-  stuck_step = steps t i d s s o o l g ws k stays refl refl
+  unfolding committed_at
+  stuck_step =
+      let same : s.groups.items ≡ slice_set s.groups.items i t.group = sym (ap (λ y. slice_set s.groups.items i y) g ∙ set-get_or s.groups.items i d) in
+      stepped (with_own_rows t) i d s s o o None t.counted.now (λ q. refl) l g ws k (stuck_released (with_own_rows t) s.pending.items s.sets o stuck) refl same refl refl
 
 up_to : (o : Bool) (n k : ℕ) → not o || ltb n k ≡ not (o && leb k n)
 up_to false n k = refl
@@ -173,6 +171,9 @@ module _ (v : View) (now : ℕ) (s : Store) where
   pub same_count : (i : ℕ) (u : Store) (p : List ℕ) → ReleasedTo v now i s u p → length u.groups.items ≡ length s.groups.items
   same_count i u p r =
       omega (arith, ap length r.groups, length-append (upto i).0 (drop i gs), length-drop i gs, released_length turns (take i gs) (work_of (state_of s)), length-take i gs)
+
+  pub still_within : (i : ℕ) (u : Store) (p : List ℕ) → i < length s.groups.items → ReleasedTo v now i s u p → i < length u.groups.items
+  still_within i u p h r = omega (arith, same_count i u p r, h)
 
   -- ---- all of them
 

@@ -17,7 +17,7 @@ use Rattle.rules.specs.declared.entry.What.TheVariants.{Sample, End}
 use Rattle.rules.specs.Sets.{lowest_ended}
 use Rattle.rules.specs.Commit.{ruled_out, ready, next, is_head, head_of, copies_arrived}
 use Rattle.rules.specs.Release.{Work, skip, young, discard, discard_stale, with_held, with_out, settle, commit_one, commit_all, commit, commit_if, round}
-use Rattle.release.specs.OwnTurn.{own_turn}
+use Rattle.rules.specs.GroupTurn.{turn_as}
 use Rattle.rules.specs.declared.turn.GroupTurn.{GroupTurn}
 use Rattle.sets.specs.declared.Sets.{Sets}
 use Rattle.sets.specs.Works.{Goes}
@@ -75,15 +75,15 @@ module _ (t : GroupTurn) (ps : Entries) (k : Progress) (s : Sets) (st : Stands t
   rest = left t.group.guid k.last ps
 
   abbrev pub listed : Entries
-  listed = by_number (own (own_turn t) rest)
+  listed = by_number (own (turn_as t) rest)
 
   none_ended : (v : Work ℕ) → Ended t ps k.last s o v → lowest_ended t.group.guid v.held ≡ None
   none_ended v x = ap (lowest_ended t.group.guid) (sym x.carries.held) ∙ q
 
-  pub head_none : slice_get k.rest.now 0 ≡ None → (v : Work ℕ) → Ended t ps k.last s o v → round (own_turn t) v ≡ None
+  pub head_none : slice_get k.rest.now 0 ≡ None → (v : Work ℕ) → Ended t ps k.last s o v → round (turn_as t) v ≡ None
   head_none e v x =
       let f : slice_get listed 0 ≡ None = ap (λ l. slice_get l 0) (sym st.listed.entries) ∙ ap (λ l. slice_get (entries_at ps l) 0) (nothing k.rest.now e) in
-      round_empty (own_turn t) v (none_ended v x) (ap (λ l. slice_get (by_number (own (own_turn t) l)) 0) x.pending ∙ f)
+      round_empty (turn_as t) v (none_ended v x) (ap (λ l. slice_get (by_number (own (turn_as t) l)) 0) x.pending ∙ f)
 
   module _ (i : ℕ) (f : slice_get k.rest.now 0 ≡ Some i) where
     abbrev pub head : Entry ℕ
@@ -103,69 +103,69 @@ module _ (t : GroupTurn) (ps : Entries) (k : Progress) (s : Sets) (st : Stands t
       both : entries_at ps a ++ entries_at ps b ≡ listed
       both = ap (λ l. entries_at ps l ++ entries_at ps b) front ∙ ap (λ l. entries_at ps (take m k.rest.now) ++ entries_at ps l) back ∙ entries_split ps m k.rest.now ∙ st.listed.entries
 
-      heads_are : head_of (own_turn t) head.number rest ≡ entries_at ps a
-      heads_are = head_of_own (own_turn t) rest head.number ∙ front_is head.number (own (own_turn t) rest) (entries_at ps a) (entries_at ps b) both (first_is (own (own_turn t) rest) head first).0 heads other
+      heads_are : head_of (turn_as t) head.number rest ≡ entries_at ps a
+      heads_are = head_of_own (turn_as t) rest head.number ∙ front_is head.number (own (turn_as t) rest) (entries_at ps a) (entries_at ps b) both (first_is (own (turn_as t) rest) head first).0 heads other
 
-      next_is : next (own_turn t) rest ≡ Some head.number
-      next_is = next_first (own_turn t) rest head first
+      next_is : next (turn_as t) rest ≡ Some head.number
+      next_is = next_first (turn_as t) rest head first
 
       -- what is left, in order
-      pub left_listed : Lists ps (by_number (own (own_turn t) (left t.group.guid (Some head.number) ps))) b
+      pub left_listed : Lists ps (by_number (own (turn_as t) (left t.group.guid (Some head.number) ps))) b
       left_listed = record {
         entries =
-            sym (back_is head.number (own (own_turn t) rest) (entries_at ps a) (entries_at ps b) both (first_is (own (own_turn t) rest) head first).0 heads other)
-            ∙ ap by_number (sym (own_left (own_turn t) rest head.number))
-            ∙ ap (λ l. by_number (own (own_turn t) l)) (left_next (own_turn t) k.last ps head.number next_is);
+            sym (back_is head.number (own (turn_as t) rest) (entries_at ps a) (entries_at ps b) both (first_is (own (turn_as t) rest) head first).0 heads other)
+            ∙ ap by_number (sym (own_left (turn_as t) rest head.number))
+            ∙ ap (λ l. by_number (own (turn_as t) l)) (left_next (turn_as t) k.last ps head.number next_is);
         within = subst (λ l. AllBelow (length ps) l) (sym back) (below_drop ps (length ps) m k.rest.now st.listed.within);
       }
 
       pub heads_own : list_all (λ e. of_group t.group.guid e) (entries_at ps a) ≡ true
       unfolding head_of
       heads_own =
-          subst (λ l. list_all (λ e. of_group t.group.guid e) l ≡ true) (sym (head_of_own (own_turn t) rest head.number) ∙ heads_are)
-          (all_keep (λ e. of_group t.group.guid e) (λ e. eqb head.number e.number) (own (own_turn t) rest) (all_kept (λ e. of_group t.group.guid e) rest))
+          subst (λ l. list_all (λ e. of_group t.group.guid e) l ≡ true) (sym (head_of_own (turn_as t) rest head.number) ∙ heads_are)
+          (all_keep (λ e. of_group t.group.guid e) (λ e. eqb head.number e.number) (own (turn_as t) rest) (all_kept (λ e. of_group t.group.guid e) rest))
 
       module _ (v : Work ℕ) (x : Ended t ps k.last s o v) where
         abbrev pub committed : ℕ
         committed = unwrap_or k.last t.group.committed
 
         abbrev pub is_ready : Bool
-        is_ready = (eqb head.number (suc committed) || ruled_out (own_turn t) committed head.number) && copies_arrived (own_turn t) head.number (entries_at ps a)
+        is_ready = (eqb head.number (suc committed) || ruled_out (turn_as t) committed head.number) && copies_arrived (turn_as t) head.number (entries_at ps a)
 
-        ready_is : ready (own_turn t) v.committed head.number v.pending ≡ is_ready
+        ready_is : ready (turn_as t) v.committed head.number v.pending ≡ is_ready
         unfolding ready
         ready_is =
-            ap (λ c. (eqb head.number (suc c) || ruled_out (own_turn t) c head.number) && copies_arrived (own_turn t) head.number (head_of (own_turn t) head.number v.pending)) x.committed
-            ∙ ap (λ l. (eqb head.number (suc committed) || ruled_out (own_turn t) committed head.number) && copies_arrived (own_turn t) head.number (head_of (own_turn t) head.number l)) x.pending
-            ∙ ap (λ l. (eqb head.number (suc committed) || ruled_out (own_turn t) committed head.number) && copies_arrived (own_turn t) head.number l) heads_are
+            ap (λ c. (eqb head.number (suc c) || ruled_out (turn_as t) c head.number) && copies_arrived (turn_as t) head.number (head_of (turn_as t) head.number v.pending)) x.committed
+            ∙ ap (λ l. (eqb head.number (suc committed) || ruled_out (turn_as t) committed head.number) && copies_arrived (turn_as t) head.number (head_of (turn_as t) head.number l)) x.pending
+            ∙ ap (λ l. (eqb head.number (suc committed) || ruled_out (turn_as t) committed head.number) && copies_arrived (turn_as t) head.number l) heads_are
 
-        round_is : round (own_turn t) v ≡ commit_if is_ready (ltb (t.time - head.time) t.timeout) (own_turn t) head.number v
+        round_is : round (turn_as t) v ≡ commit_if is_ready (ltb (t.time - head.time) t.timeout) (turn_as t) head.number v
         unfolding young
         round_is =
-            round_head (own_turn t) v (none_ended v x) head (ap (λ l. slice_get (by_number (own (own_turn t) l)) 0) x.pending ∙ first)
-            ∙ ap (λ r. commit_if r (ltb (t.time - head.time) t.timeout) (own_turn t) head.number v) ready_is
+            round_head (turn_as t) v (none_ended v x) head (ap (λ l. slice_get (by_number (own (turn_as t) l)) 0) x.pending ∙ first)
+            ∙ ap (λ r. commit_if r (ltb (t.time - head.time) t.timeout) (turn_as t) head.number v) ready_is
 
-        pub head_waits : is_ready ≡ false → ltb (t.time - head.time) t.timeout ≡ true → round (own_turn t) v ≡ None
+        pub head_waits : is_ready ≡ false → ltb (t.time - head.time) t.timeout ≡ true → round (turn_as t) v ≡ None
         head_waits r y = round_is ∙ rw (r, y)
 
         module _ (u : Sets) (p : List ℕ) (j : ℕ) (c : Sets) (same : c.held.items ≡ s.held.items) (counted : c.counts ≡ skip j s.counts) (goes : Goes (λ w. commit_all (entries_at ps a) w) c o u p) where
-          behind : Ended t ps (Some head.number) u p (commit (own_turn t) head.number j v)
+          behind : Ended t ps (Some head.number) u p (commit (turn_as t) head.number j v)
           unfolding commit
           behind =
-              let w : Work ℕ = taken (own_turn t) head.number j v in
-              let l : head_of (own_turn t) head.number v.pending ≡ entries_at ps a = ap (head_of (own_turn t) head.number) x.pending ∙ heads_are in
-              subst (λ es. Ended t ps (Some head.number) u p (commit_all es (taken (own_turn t) head.number j v))) (sym l)
+              let w : Work ℕ = taken (turn_as t) head.number j v in
+              let l : head_of (turn_as t) head.number v.pending ≡ entries_at ps a = ap (head_of (turn_as t) head.number) x.pending ∙ heads_are in
+              subst (λ es. Ended t ps (Some head.number) u p (commit_all es (taken (turn_as t) head.number j v))) (sym l)
               (record {
-                carries = goes (taken (own_turn t) head.number j v) (record { held = same ∙ x.carries.held; counts = counted ∙ ap (skip j) x.carries.counts; out = x.carries.out });
-                committed = (commits_stay (entries_at ps a) (taken (own_turn t) head.number j v)).1;
-                pending = (commits_stay (entries_at ps a) (taken (own_turn t) head.number j v)).0 ∙ ap (filter (λ e. not (is_head (own_turn t) head.number e))) x.pending ∙ left_next (own_turn t) k.last ps head.number next_is;
+                carries = goes (taken (turn_as t) head.number j v) (record { held = same ∙ x.carries.held; counts = counted ∙ ap (skip j) x.carries.counts; out = x.carries.out });
+                committed = (commits_stay (entries_at ps a) (taken (turn_as t) head.number j v)).1;
+                pending = (commits_stay (entries_at ps a) (taken (turn_as t) head.number j v)).0 ∙ ap (filter (λ e. not (is_head (turn_as t) head.number e))) x.pending ∙ left_next (turn_as t) k.last ps head.number next_is;
               })
 
-          pub head_ready : is_ready ≡ true → j ≡ 0 → (y : Work ℕ) × (round (own_turn t) v ≡ Some y) × Ended t ps (Some head.number) u p y
-          head_ready r e = (commit (own_turn t) head.number j v, round_is ∙ rw (r, e), behind)
+          pub head_ready : is_ready ≡ true → j ≡ 0 → (y : Work ℕ) × (round (turn_as t) v ≡ Some y) × Ended t ps (Some head.number) u p y
+          head_ready r e = (commit (turn_as t) head.number j v, round_is ∙ rw (r, e), behind)
 
-          pub head_old : is_ready ≡ false → ltb (t.time - head.time) t.timeout ≡ false → j ≡ head.number - suc committed → (y : Work ℕ) × (round (own_turn t) v ≡ Some y) × Ended t ps (Some head.number) u p y
-          head_old r y e = (commit (own_turn t) head.number j v, round_is ∙ rw (r, y, e, x.committed), behind)
+          pub head_old : is_ready ≡ false → ltb (t.time - head.time) t.timeout ≡ false → j ≡ head.number - suc committed → (y : Work ℕ) × (round (turn_as t) v ≡ Some y) × Ended t ps (Some head.number) u p y
+          head_old r y e = (commit (turn_as t) head.number j v, round_is ∙ rw (r, y, e, x.committed), behind)
 
 -- ---- how many are left
 
@@ -180,7 +180,7 @@ left_length g (Some n) ps =
     omega (arith, length_split (λ e. of_group g e) (left g (Some n) ps), length_split (λ e. of_group g e) ps, count_keep (λ e. not (of_group g e && leb e.number n)) (λ e. not (of_group g e)) ps)
 
 pub left_room : (t : GroupTurn) (ps : Entries) (k : Progress) (s : Sets) → Stands t ps k s → length (left t.group.guid k.last ps) + count (λ e. of_group t.group.guid e) ps ≤ length k.rest.now + length ps
-left_room t ps k s h = omega (arith, listed_length ps (own (own_turn t) (left t.group.guid k.last ps)) k.rest.now h.listed, left_length t.group.guid k.last ps)
+left_room t ps k s h = omega (arith, listed_length ps (own (turn_as t) (left t.group.guid k.last ps)) k.rest.now h.listed, left_length t.group.guid k.last ps)
 
 pub known_nothing : (g : Guid) (m : Memory) (l : Entries) → m.quiet ≡ false → m.clean ≡ false → Known g m l
 known_nothing g m l q c = record { ended = λ h. not_both m.quiet h q; stale = λ h e o p. not_both m.clean h c }

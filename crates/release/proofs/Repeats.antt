@@ -10,7 +10,7 @@ use lib.Dec.{eqb, ltb}
 use lib.ListN.{length}
 use Rattle.rules.specs.declared.entry.Entry.{Entry}
 use Rattle.rules.specs.Sets.{lowest_ended, whole}
-use Rattle.release.specs.OwnTurn.{own_turn}
+use Rattle.rules.specs.GroupTurn.{turn_as}
 use Rattle.rules.specs.declared.turn.GroupTurn.{GroupTurn}
 use Rattle.sets.specs.declared.Sets.{Sets}
 use Rattle.sets.specs.Works.{Goes}
@@ -77,16 +77,16 @@ unfolding finish hand_out discard
 finish_stays t z w = elim (whole t.guid z t.counted w.held) as (λ b. ((finish_if b t.guid z w).pending ≡ w.pending) × ((finish_if b t.guid z w).committed ≡ w.committed)) [ true ↦ (refl, refl) | false ↦ (refl, refl) ]
 
 module _ (t : GroupTurn) (ps : Entries) (r : Option ℕ) (s : Sets) (o : List ℕ) (z : ℤ) (e : lowest_ended t.group.guid s.held.items ≡ Some z) (v : Work ℕ) (x : Ended t ps r s o v) where
-  here : round (own_turn t) v ≡ finish_or (waits (own_turn t) z s.held.items) (own_turn t) z v
-  here = finish_or_not (own_turn t) v z (ap (lowest_ended t.group.guid) (sym x.carries.held) ∙ e) ∙ ap (λ l. finish_or (waits (own_turn t) z l) (own_turn t) z v) (sym x.carries.held)
+  here : round (turn_as t) v ≡ finish_or (waits (turn_as t) z s.held.items) (turn_as t) z v
+  here = finish_or_not (turn_as t) v z (ap (lowest_ended t.group.guid) (sym x.carries.held) ∙ e) ∙ ap (λ l. finish_or (waits (turn_as t) z l) (turn_as t) z v) (sym x.carries.held)
 
-  pub set_finished : (u : Sets) (p : List ℕ) → waits (own_turn t) z s.held.items ≡ false → Goes (λ w. finish (own_turn t) z w) s o u p → (y : Work ℕ) × (round (own_turn t) v ≡ Some y) × Ended t ps r u p y
+  pub set_finished : (u : Sets) (p : List ℕ) → waits (turn_as t) z s.held.items ≡ false → Goes (λ w. finish (turn_as t) z w) s o u p → (y : Work ℕ) × (round (turn_as t) v ≡ Some y) × Ended t ps r u p y
   set_finished u p h g =
-      let f = finish_stays (own_turn t) z v in
-      (finish (own_turn t) z v, here ∙ ap (λ b. finish_or b (own_turn t) z v) h, record { carries = g v x.carries; committed = f.1 ∙ x.committed; pending = f.0 ∙ x.pending })
+      let f = finish_stays (turn_as t) z v in
+      (finish (turn_as t) z v, here ∙ ap (λ b. finish_or b (turn_as t) z v) h, record { carries = g v x.carries; committed = f.1 ∙ x.committed; pending = f.0 ∙ x.pending })
 
-  pub set_waiting : waits (own_turn t) z s.held.items ≡ true → round (own_turn t) v ≡ None
-  set_waiting h = here ∙ ap (λ b. finish_or b (own_turn t) z v) h
+  pub set_waiting : waits (turn_as t) z s.held.items ≡ true → round (turn_as t) v ≡ None
+  set_waiting h = here ∙ ap (λ b. finish_or b (turn_as t) z v) h
 
 -- ---- the release of a group as far as its repetitions have come
 
@@ -98,14 +98,14 @@ module _ (t : GroupTurn) (ps : Entries) (s : Sets) (o : List ℕ) where
   -- no repetition goes on from there
   pub reaches_stop : (i : ℕ) (r : Option ℕ) (u : Sets) (p : List ℕ) (u' : Sets) (p' : List ℕ) → Reaches i t ps s o r u p → ((v : Work ℕ) → Ended t ps r u p v → Repeated t ps r None u' p' v) → GroupReleased t ps s o r u' p'
   reaches_stop i r u p u' p' x f w a b c =
-      let z = f (rounds i (own_turn t) w) (x w a b c) in
-      subst (λ v. Ended t ps r u' p' v) (rounds_done (own_turn t) i w z.0) z.1
+      let z = f (rounds i (turn_as t) w) (x w a b c) in
+      subst (λ v. Ended t ps r u' p' v) (rounds_done (turn_as t) i w z.0) z.1
 
   pub reaches_more : (i : ℕ) (r : Option ℕ) (k : Progress) (u : Sets) (p : List ℕ) (u' : Sets) (p' : List ℕ) → Reaches i t ps s o r u p → ((v : Work ℕ) → Ended t ps r u p v → Repeated t ps r (Some k) u' p' v) → Reaches (i + 1) t ps s o k.last u' p'
   reaches_more i r k u p u' p' x f w a b c =
-      let z = f (rounds i (own_turn t) w) (x w a b c) in
+      let z = f (rounds i (turn_as t) w) (x w a b c) in
       let n : i + 1 ≡ suc i = omega arith in
-      let e : z.0 ≡ rounds (i + 1) (own_turn t) w = sym (ap (λ m. rounds m (own_turn t) w) n ∙ rounds_last (own_turn t) i w ∙ ap (λ y. or_stop (λ v. v) (rounds i (own_turn t) w) y) z.1) in
+      let e : z.0 ≡ rounds (i + 1) (turn_as t) w = sym (ap (λ m. rounds m (turn_as t) w) n ∙ rounds_last (turn_as t) i w ∙ ap (λ y. or_stop (λ v. v) (rounds i (turn_as t) w) y) z.1) in
       subst (λ v. Ended t ps k.last u' p' v) e z.2
 
   -- as many repetitions as any work needs
@@ -113,4 +113,7 @@ module _ (t : GroupTurn) (ps : Entries) (s : Sets) (o : List ℕ) where
   unfolding enough
   reaches_all i r u p e x w a b c =
       let n : i ≡ enough w = omega (arith, ap length a, ap length c.held) in
-      subst (λ m. Ended t ps r u p (rounds m (own_turn t) w)) n (x w a b c)
+      subst (λ m. Ended t ps r u p (rounds m (turn_as t) w)) n (x w a b c)
+
+  pub stuck_released : ((w : Work ℕ) → w.pending ≡ ps → w.held ≡ s.held.items → w.committed ≡ t.group.committed → round (turn_as t) w ≡ None) → GroupReleased t ps s o None s o
+  stuck_released f = reaches_stop 0 None s o s o reaches_none (λ v x. (f v x.pending (sym x.carries.held) x.committed, x))

@@ -1,7 +1,7 @@
 -- What the release of one group leaves.
 use Rattle.std.specs.Prelude.{ℕ, ◌≡◌, List, Option, unwrap_or}
 use Rattle.rules.specs.Release.{Work, rounds, enough}
-use Rattle.release.specs.OwnTurn.{own_turn}
+use Rattle.rules.specs.GroupTurn.{turn_as}
 use Rattle.rules.specs.declared.entry.Entry.{Entry}
 use Rattle.rules.specs.declared.turn.GroupTurn.{GroupTurn}
 use Rattle.sets.specs.declared.Sets.{Sets}
@@ -16,4 +16,4 @@ pub record Ended (t : GroupTurn) (ps : List (Entry ℕ)) (r : Option ℕ) (s : S
   pub pending : v.pending ≡ left t.group.guid r ps
 
 abbrev pub GroupReleased : GroupTurn → List (Entry ℕ) → Sets → List ℕ → Option ℕ → Sets → List ℕ → Type 0
-GroupReleased t ps s o r u p = (w : Work ℕ) → w.pending ≡ ps → w.committed ≡ t.group.committed → Carries s o w → Ended t ps r u p (rounds (enough w) (own_turn t) w)
+GroupReleased t ps s o r u p = (w : Work ℕ) → w.pending ≡ ps → w.committed ≡ t.group.committed → Carries s o w → Ended t ps r u p (rounds (enough w) (turn_as t) w)

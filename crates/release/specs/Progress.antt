@@ -3,7 +3,7 @@ use Rattle.std.specs.Prelude.{ℕ, ◌≡◌, List, Option, None, Some}
 use Rattle.laws.specs.Lists.{filter}
 use Rattle.rules.specs.Entry.{of_group}
 use Rattle.rules.specs.Release.{Work, round, rounds}
-use Rattle.release.specs.OwnTurn.{own_turn}
+use Rattle.rules.specs.GroupTurn.{turn_as}
 use Rattle.rules.specs.declared.entry.Entry.{Entry}
 use Rattle.rules.specs.declared.turn.GroupTurn.{GroupTurn}
 use Rattle.sets.specs.declared.Sets.{Sets}
@@ -21,9 +21,9 @@ pub record Stands (t : GroupTurn) (ps : List (Entry ℕ)) (k : Progress) (s : Se
 
 -- the definition's repetition stops, and nothing changed; or it goes on, and the state is that behind it
 abbrev pub Repeated : GroupTurn → List (Entry ℕ) → Option ℕ → Option Progress → Sets → List ℕ → Work ℕ → Type 0
-Repeated t ps r None s o v = (round (own_turn t) v ≡ None) × Ended t ps r s o v
-Repeated t ps r (Some k) s o v = (u : Work ℕ) × (round (own_turn t) v ≡ Some u) × Ended t ps k.last s o u
+Repeated t ps r None s o v = (round (turn_as t) v ≡ None) × Ended t ps r s o v
+Repeated t ps r (Some k) s o v = (u : Work ℕ) × (round (turn_as t) v ≡ Some u) × Ended t ps k.last s o u
 
 -- what i repetitions of the definition make of the group's beginning is what the state stands for
 abbrev pub Reaches : ℕ → GroupTurn → List (Entry ℕ) → Sets → List ℕ → Option ℕ → Sets → List ℕ → Type 0
-Reaches i t ps s o r u p = (w : Work ℕ) → w.pending ≡ ps → w.committed ≡ t.group.committed → Carries s o w → Ended t ps r u p (rounds i (own_turn t) w)
+Reaches i t ps s o r u p = (w : Work ℕ) → w.pending ≡ ps → w.committed ≡ t.group.committed → Carries s o w → Ended t ps r u p (rounds i (turn_as t) w)

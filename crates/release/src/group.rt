@@ -8,7 +8,7 @@ ghost use Rattle.rules.specs.GroupTurn.{turn_as};
 ghost use Rattle.rules.specs.Release.{Work, round, skip, waits, finish};
 ghost use Rattle.sets.specs.Works.{Goes};
 ghost use Rattle.ready.specs.Places.{entries_at};
-ghost use Rattle.release.specs.OwnTurn.{own_turn};
+ghost use Rattle.release.specs.OwnTurn.{own_turn, with_own_rows};
 ghost use Rattle.release.specs.Order.{by_number, AllBelow};
 ghost use Rattle.release.specs.GroupReleased.{Ended, GroupReleased};
 ghost use Rattle.release.specs.Progress.{Stands, Repeated};
@@ -165,11 +165,11 @@ fn commit_head<'a>(
     sets: &mut Sets,
     out: &mut ArrayVec<u64, 256>,
 ) -> Option<Progress<'a>>
-    requires stands { Stands turn.now entries.now at sets.old }
+    requires stands { Stands (with_own_rows turn.now) entries.now at sets.old }
     requires room { len_of sets.old.held + array_vec_len out.old + length at.rest.now ≤ 256 }
     requires quiet { lowest_ended turn.now.group.guid sets.old.held.items ≡ None }
-    ensures goes { (v : Work ℕ) → Ended turn.now entries.now at.entry.last sets.old out.old.items v → Repeated turn.now entries.now at.entry.last result sets.new out.new.items v }
-    ensures stands { Stands turn.now entries.now (unwrap_or result at.entry) sets.new }
+    ensures goes { (v : Work ℕ) → Ended (with_own_rows turn.now) entries.now at.entry.last sets.old out.old.items v → Repeated (with_own_rows turn.now) entries.now at.entry.last result sets.new out.new.items v }
+    ensures stands { Stands (with_own_rows turn.now) entries.now (unwrap_or result at.entry) sets.new }
     ensures room { len_of sets.new.held + array_vec_len out.new + length (unwrap_or result at.entry).rest.now ≤ len_of sets.old.held + array_vec_len out.old + length at.entry.rest.now }
 {
     let Some(&first) = at.rest.first() else {
@@ -210,10 +210,10 @@ fn repeat<'a>(
     out: &mut ArrayVec<u64, 256>,
 ) -> Option<Progress<'a>>
     requires counted { length turn.now.counted.now ≤ 256 }
-    requires stands { Stands turn.now entries.now at sets.old }
+    requires stands { Stands (with_own_rows turn.now) entries.now at sets.old }
     requires room { len_of sets.old.held + array_vec_len out.old + length at.rest.now ≤ 256 }
-    ensures goes { (v : Work ℕ) → Ended turn.now entries.now at.entry.last sets.old out.old.items v → Repeated turn.now entries.now at.entry.last result sets.new out.new.items v }
-    ensures stands { Stands turn.now entries.now (unwrap_or result at.entry) sets.new }
+    ensures goes { (v : Work ℕ) → Ended (with_own_rows turn.now) entries.now at.entry.last sets.old out.old.items v → Repeated (with_own_rows turn.now) entries.now at.entry.last result sets.new out.new.items v }
+    ensures stands { Stands (with_own_rows turn.now) entries.now (unwrap_or result at.entry) sets.new }
     ensures room { len_of sets.new.held + array_vec_len out.new + length (unwrap_or result at.entry).rest.now ≤ len_of sets.old.held + array_vec_len out.old + length at.entry.rest.now }
 {
     let ended = if at.memory.quiet {
@@ -243,7 +243,7 @@ pub(crate) fn release_group(
 ) -> Option<u64>
     requires counted { length turn.now.counted.now ≤ 256 }
     requires room { len_of sets.old.held + array_vec_len out.old + count (λ e. of_group turn.now.group.guid e) pending.now.items ≤ 256 }
-    ensures goes { GroupReleased turn.now pending.now.items sets.old out.old.items result sets.new out.new.items }
+    ensures goes { GroupReleased (with_own_rows turn.now) pending.now.items sets.old out.old.items result sets.new out.new.items }
     ensures room { len_of sets.new.held + array_vec_len out.new + length (left turn.now.group.guid result pending.now.items) ≤ len_of sets.old.held + array_vec_len out.old + len_of pending.now }
 {
     let entries = pending.as_slice();

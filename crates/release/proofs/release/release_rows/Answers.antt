@@ -4,6 +4,7 @@ use Rattle.rules.specs.Release.{committed_at}
 use Rattle.rules.specs.declared.state.Group.{Group}
 use Rattle.rules.specs.declared.turn.GroupTurn.{GroupTurn}
 use Rattle.release.specs.Left.{left}
+use Rattle.release.specs.OwnTurn.{with_own_rows}
 use Rattle.release.specs.GroupReleased.{GroupReleased}
 use Rattle.release.proofs.Groups.{stepped, left_above, fits_count}
 use Rattle.release.proofs.release.release_rows.Goals as goal
@@ -42,8 +43,8 @@ returns-in-Some-clause-steps c =
     c.retain.ensures.items ∙ left_above g c.in-Some.number c.args.store.now.pending.items in
     let t : GroupTurn = record { group = get_or c.as_slice.result.now c.args.i new; writers = c.as_slice-2.result; counted = c.args.counted; digests = c.args.digests; time = c.args.time; timeout = c.args.store.now.timeout } in
     let old = c.args.store.now.groups in
-    stepped t c.args.i new c.args.store.now _ c.args.out.now.items c.release_group.new.out.items c.requires.within (ap (λ l. get_or l c.args.i new) c.as_slice.ensures.value) c.as_slice-2.ensures.value refl (Some c.in-Some.number)
-    (subst (λ (q : Option ℕ). GroupReleased t c.args.store.now.pending.items c.args.store.now.sets c.args.out.now.items q c.release_group.new.sets c.release_group.new.out.items) e c.release_group.ensures.goes)
+    stepped (with_own_rows t) c.args.i new c.args.store.now _ c.args.out.now.items c.release_group.new.out.items (Some c.in-Some.number) c.args.counted.now (λ q. refl) c.requires.within (ap (λ l. get_or l c.args.i new) c.as_slice.ensures.value) c.as_slice-2.ensures.value refl
+    (subst (λ (q : Option ℕ). GroupReleased (with_own_rows t) c.args.store.now.pending.items c.args.store.now.sets c.args.out.now.items q c.release_group.new.sets c.release_group.new.out.items) e c.release_group.ensures.goes)
     r
     c.set.ensures.items
     refl refl
@@ -54,8 +55,8 @@ returns-in_default-clause-steps c =
     let e : c.release_group.result ≡ None = search rules in
     let t : GroupTurn = record { group = get_or c.as_slice.result.now c.args.i new; writers = c.as_slice-2.result; counted = c.args.counted; digests = c.args.digests; time = c.args.time; timeout = c.args.store.now.timeout } in
     let old = c.args.store.now.groups in
-    stepped t c.args.i new c.args.store.now _ c.args.out.now.items c.release_group.new.out.items c.requires.within (ap (λ l. get_or l c.args.i new) c.as_slice.ensures.value) c.as_slice-2.ensures.value refl None
-    (subst (λ (q : Option ℕ). GroupReleased t c.args.store.now.pending.items c.args.store.now.sets c.args.out.now.items q c.release_group.new.sets c.release_group.new.out.items) e c.release_group.ensures.goes)
+    stepped (with_own_rows t) c.args.i new c.args.store.now _ c.args.out.now.items c.release_group.new.out.items None c.args.counted.now (λ q. refl) c.requires.within (ap (λ l. get_or l c.args.i new) c.as_slice.ensures.value) c.as_slice-2.ensures.value refl
+    (subst (λ (q : Option ℕ). GroupReleased (with_own_rows t) c.args.store.now.pending.items c.args.store.now.sets c.args.out.now.items q c.release_group.new.sets c.release_group.new.out.items) e c.release_group.ensures.goes)
     refl
     (sym (ap (λ (l : List Group). slice_set old.items c.args.i (get_or l c.args.i new)) c.as_slice.ensures.value ∙ set-get_or old.items c.args.i new))
     refl refl
